@@ -1,0 +1,147 @@
+-- Laws of Booleans: what a conjunction's parts say, exclusive or, and the parity of a number.
+use mathlib.Core.Path.{_≡_, refl, sym, _∙_}
+use Prim.Native.Nat.{ℕ, zero, suc, _+_, _≤_}
+use native.Mathlib.Omega.{arith}
+use mathlib.Core.Bool.{Bool, true, false, not, cond, _&&_, _||_, xor, true≢false, false≢true}
+use Rattle.plane.specs.Lists.{bit}
+
+-- ---- Tests as facts
+
+-- a test that is true is not false
+pub clash {ℓ} : {X : Type ℓ} {b : Bool} → b ≡ true → b ≡ false → X
+clash e f = absurd (true≢false (sym e ∙ f))
+
+-- a test whose other answer is absurd
+pub by : (b : Bool) → (b ≡ false → ⊥) → b ≡ true
+by true f = refl
+by false f = absurd (f refl)
+
+pub by-no : (b : Bool) → (b ≡ true → ⊥) → b ≡ false
+by-no true f = absurd (f refl)
+by-no false f = refl
+
+-- two tests that pass together are equal
+pub iff : (a b : Bool) → (a ≡ true → b ≡ true) → (b ≡ true → a ≡ true) → a ≡ b
+iff true b f g = sym (f refl)
+iff false true f g = g refl
+iff false false f g = refl
+
+pub and-parts : (a b : Bool) → (a && b) ≡ true → (a ≡ true) × (b ≡ true)
+and-parts true b e = (refl, e)
+and-parts false b e = absurd (false≢true e)
+
+pub and-make : (a b : Bool) → a ≡ true → b ≡ true → (a && b) ≡ true
+and-make a b e f = rw (e, f)
+
+pub or-parts : (a b : Bool) → (a || b) ≡ false → (a ≡ false) × (b ≡ false)
+or-parts true b e = absurd (true≢false e)
+or-parts false b e = (refl, e)
+
+pub or-right : (a b : Bool) → b ≡ true → (a || b) ≡ true
+or-right true b e = refl
+or-right false b e = e
+
+pub not-true : (b : Bool) → not b ≡ true → b ≡ false
+not-true true e = sym e
+not-true false e = refl
+
+pub not-false : (b : Bool) → not b ≡ false → b ≡ true
+not-false true e = refl
+not-false false e = sym e
+
+-- ---- Exclusive or
+
+pub xor-self : (b : Bool) → xor b b ≡ false
+unfolding xor
+xor-self true = refl
+xor-self false = refl
+
+pub xor-false : (b : Bool) → xor b false ≡ b
+unfolding xor
+xor-false true = refl
+xor-false false = refl
+
+pub false-xor : (b : Bool) → xor false b ≡ b
+unfolding xor
+false-xor true = refl
+false-xor false = refl
+
+pub xor-same : (a b : Bool) → xor a b ≡ false → a ≡ b
+unfolding xor
+xor-same true true e = refl
+xor-same true false e = absurd (true≢false e)
+xor-same false true e = absurd (true≢false e)
+xor-same false false e = refl
+
+pub xor-back : (a b : Bool) → xor a (xor a b) ≡ b
+unfolding xor
+xor-back true true = refl
+xor-back true false = refl
+xor-back false true = refl
+xor-back false false = refl
+
+pub xor-assoc : (a b c : Bool) → xor (xor a b) c ≡ xor a (xor b c)
+unfolding xor
+xor-assoc true true true = refl
+xor-assoc true true false = refl
+xor-assoc true false true = refl
+xor-assoc true false false = refl
+xor-assoc false true true = refl
+xor-assoc false true false = refl
+xor-assoc false false true = refl
+xor-assoc false false false = refl
+
+pub xor-comm : (a b : Bool) → xor a b ≡ xor b a
+unfolding xor
+xor-comm true true = refl
+xor-comm true false = refl
+xor-comm false true = refl
+xor-comm false false = refl
+
+pub xor-left-comm : (a b c : Bool) → xor a (xor b c) ≡ xor b (xor a c)
+xor-left-comm a b c = sym (xor-assoc a b c) ∙ rw (xor-comm a b) (xor-assoc b a c)
+
+-- two xors, paired otherwise
+pub xor-swap : (a b c d : Bool) → xor (xor a b) (xor c d) ≡ xor (xor a c) (xor b d)
+xor-swap a b c d = simp (xor-assoc, xor-left-comm)
+
+-- ---- The parity of a number
+
+unfoldable pub isOdd : ℕ → Bool
+isOdd zero = false
+isOdd (suc n) = not (isOdd n)
+
+pub isOdd-bit : (b : Bool) (m : ℕ) → isOdd (bit b + m) ≡ xor b (isOdd m)
+unfolding xor isOdd
+isOdd-bit true m = rw (one-more m) (flip (isOdd m))
+  where
+    one-more : (k : ℕ) → 1 + k ≡ suc k
+    one-more k = omega arith
+
+    flip : (b : Bool) → not b ≡ xor true b
+    flip true = refl
+    flip false = refl
+isOdd-bit false m = rw (none-more m) (sym (false-xor (isOdd m)))
+  where
+    none-more : (k : ℕ) → 0 + k ≡ k
+    none-more k = omega arith
+
+-- an even number is twice its half
+pub even-half : (n : ℕ) → isOdd n ≡ false → (h : ℕ) × (n ≡ h + h)
+unfolding isOdd
+even-half zero e = (0, refl)
+even-half (suc zero) e = absurd (true≢false e)
+even-half (suc (suc n)) e = let r = even-half n (twice (isOdd n) e) in (suc (r .0), omega (arith, r .1))
+  where
+    twice : (b : Bool) → not (not b) ≡ false → b ≡ false
+    twice true f = f
+    twice false f = f
+
+-- ---- Counting one more
+
+-- a wider test counts no less
+pub cond-le : {m n : ℕ} (t u : Bool) → (t ≡ true → u ≡ true) → m ≤ n → cond t (suc m) m ≤ cond u (suc n) n
+cond-le true true s h = omega arith
+cond-le true false s h = absurd (false≢true (s refl))
+cond-le false true s h = omega arith
+cond-le false false s h = h

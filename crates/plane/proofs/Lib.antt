@@ -1,0 +1,5 @@
+pub mod Order
+pub mod Bools
+pub mod Sums
+pub mod Parity
+pub mod Points

@@ -1,0 +1,113 @@
+-- Laws of `odd`, for any test: over a list, over two tests, and over classes of elements.
+use mathlib.Core.Path.{_≡_, refl, sym, ap, _∙_}
+use Prim.Native.Nat.{ℕ, _+_, _≤_}
+use native.Mathlib.Omega.{arith}
+use mathlib.Core.Bool.{Bool, true, false, not, _&&_, xor, false≢true, and-assoc, and-false}
+use mathlib.Core.List.{List, [], _∷_, _++_, List·Memᴰ as In, List·Memᴰ·head as head, List·Memᴰ·tail as tail}
+use Rattle.plane.specs.Lists.{bit, any, count, odd, sum}
+use Rattle.plane.proofs.Bools.{and-parts, xor-self, xor-false, false-xor, xor-assoc, xor-swap, isOdd, isOdd-bit}
+use Rattle.plane.proofs.Sums.{count-sum, any-in, count-in}
+
+module _ {A : Type 0} where
+  pub odd-none-of : (f : A → Bool) → odd f [] ≡ false
+  unfolding odd
+  odd-none-of f = refl
+
+  pub odd-cons : (f : A → Bool) (a : A) (l : List A) → odd f (a ∷ l) ≡ xor (f a) (odd f l)
+  unfolding odd
+  odd-cons f a l = refl
+
+  pub odd-sum : (f : A → Bool) (l : List A) → odd f l ≡ isOdd (sum (λ a. bit (f a)) l)
+  unfolding sum odd isOdd
+  odd-sum f [] = refl
+  odd-sum f (a ∷ l) = rw (odd-sum f l) (sym (isOdd-bit (f a) _))
+
+  pub odd-cong : (f g : A → Bool) (l : List A) → ((a : A) → In a l → f a ≡ g a) → odd f l ≡ odd g l
+  unfolding odd
+  odd-cong f g [] h = refl
+  odd-cong f g (a ∷ l) h = rw (h a (head refl), odd-cong f g l (λ b m. h b (tail m)))
+
+  pub odd-none : (f : A → Bool) (l : List A) → ((a : A) → In a l → f a ≡ false) → odd f l ≡ false
+  unfolding odd
+  odd-none f [] h = refl
+  odd-none f (a ∷ l) h = rw (h a (head refl), odd-none f l (λ b m. h b (tail m))) (xor-self false)
+
+  -- an odd count is of something
+  pub odd-find : (f : A → Bool) (l : List A) → odd f l ≡ true → (a : A) × In a l × (f a ≡ true)
+  unfolding odd
+  odd-find f [] e = absurd (false≢true e)
+  odd-find f (a ∷ l) e = go (odd-find f l) (f a) refl e
+    where
+      go : (odd f l ≡ true → (b : A) × In b l × (f b ≡ true)) → (t : Bool) → f a ≡ t → xor t (odd f l) ≡ true → (b : A) × In b (a ∷ l) × (f b ≡ true)
+      go ih true h e = (a, head refl, h)
+      go ih false h e = let r = ih (sym (false-xor (odd f l)) ∙ e) in (r .0, tail (r .1), r .2)
+
+  pub odd-append : (f : A → Bool) (l m : List A) → odd f (l ++ m) ≡ xor (odd f l) (odd f m)
+  unfolding odd
+  odd-append f [] m = sym (false-xor (odd f m))
+  odd-append f (a ∷ l) m = rw (odd-append f l m) (sym (xor-assoc (f a) (odd f l) (odd f m)))
+
+  pub odd-xor : (f g : A → Bool) (l : List A) → odd (λ a. xor (f a) (g a)) l ≡ xor (odd f l) (odd g l)
+  unfolding odd
+  odd-xor f g [] = sym (xor-self false)
+  odd-xor f g (a ∷ l) = rw (odd-xor f g l) (xor-swap (f a) (g a) (odd f l) (odd g l))
+
+  -- the parity of a test splits by another test
+  pub odd-split : (t f : A → Bool) (l : List A) → odd f l ≡ xor (odd (λ a. t a && f a) l) (odd (λ a. not (t a) && f a) l)
+  odd-split t f l = odd-cong f (λ a. xor (t a && f a) (not (t a) && f a)) l (λ a m. go (t a) (f a)) ∙ odd-xor (λ a. t a && f a) (λ a. not (t a) && f a) l
+    where
+      go : (b c : Bool) → c ≡ xor (b && c) (not b && c)
+      go true c = sym (xor-false c)
+      go false c = sym (false-xor c)
+
+  -- a test that just one element passes
+  pub odd-one : (f : A → Bool) {l : List A} {a : A} → In a l → f a ≡ true → count f l ≤ 1 → odd f l ≡ true
+  unfolding isOdd
+  odd-one f {l} m h k =
+      let low = count-in f m h in
+      let e : sum (λ a. bit (f a)) l ≡ 1 = omega (arith, count-sum f l) in
+      odd-sum f l ∙ ap isOdd e
+
+  -- ---- Classes: the elements with one key. Where every counted class is even, the whole is even
+
+  module _ {B : Type 0} (key : A → B) (e : B → B → Bool) (is : (u v : B) → e u v ≡ true → u ≡ v) (self : (u : B) → e u u ≡ true) where
+    -- over the classes of a list `rest`
+    peel : (g : A → Bool) (l rest : List A) (r : B → Bool) → ((q : A) → In q l → r (key q) ≡ true → any (λ p. e (key p) (key q)) rest ≡ true) → ((q : A) → In q rest → r (key q) ≡ true → odd (λ p. e (key p) (key q) && g p) l ≡ false) → odd (λ p. r (key p) && g p) l ≡ false
+    unfolding any
+    peel g l [] r some even = odd-none (λ p. r (key p) && g p) l (λ q m. go q (r (key q)) (λ d. false≢true (some q m d)))
+      where
+        go : (q : A) (b : Bool) → (b ≡ true → ⊥) → (b && g q) ≡ false
+        go q true n = absurd (n refl)
+        go q false n = refl
+    peel g l (z ∷ rest) r some even =
+        odd-split at-z (λ p. r (key p) && g p) l
+        ∙ ap (λ t. xor t (odd (λ p. not (at-z p) && (r (key p) && g p)) l)) (one-class (r (key z)) refl)
+        ∙ false-xor _
+        ∙ odd-cong (λ p. not (at-z p) && (r (key p) && g p)) (λ p. r′ (key p) && g p) l (λ q m. sym (and-assoc (not (at-z q)) (r (key q)) (g q)))
+        ∙ peel g l rest r′ some′ (λ q m d. even q (tail m) (and-parts (not (at-z q)) (r (key q)) d .1))
+      where
+        at-z : A → Bool
+        at-z p = e (key p) (key z)
+
+        r′ : B → Bool
+        r′ u = not (e u (key z)) && r u
+
+        one-key : (q : A) (c : Bool) → at-z q ≡ c → (c && (r (key q) && g q)) ≡ (c && (r (key z) && g q))
+        one-key q true d = ap (λ u. r u && g q) (is (key q) (key z) d)
+        one-key q false d = refl
+
+        one-class : (b : Bool) → r (key z) ≡ b → odd (λ p. at-z p && (r (key p) && g p)) l ≡ false
+        one-class true d = odd-cong (λ p. at-z p && (r (key p) && g p)) (λ p. at-z p && g p) l (λ q m. one-key q (at-z q) refl ∙ rw d) ∙ even z (head refl) d
+        one-class false d = odd-none (λ p. at-z p && (r (key p) && g p)) l (λ q m. one-key q (at-z q) refl ∙ rw d (and-false (at-z q)))
+
+        apart : (q : A) (c : Bool) → e (key z) (key q) ≡ c → not (at-z q) ≡ true → c ≡ false
+        apart q true c d = absurd (false≢true (sym (rw (is (key z) (key q) c, self (key q))) ∙ d))
+        apart q false c d = refl
+
+        some′ : (q : A) → In q l → r′ (key q) ≡ true → any (λ p. e (key p) (key q)) rest ≡ true
+        some′ q m d =
+            let h = and-parts (not (at-z q)) (r (key q)) d in
+            rw (apart q (e (key z) (key q)) refl (h .0)) at (some q m (h .1))
+
+    pub classes-even : (g : A → Bool) (r : B → Bool) (l : List A) → ((q : A) → In q l → r (key q) ≡ true → odd (λ p. e (key p) (key q) && g p) l ≡ false) → odd (λ p. r (key p) && g p) l ≡ false
+    classes-even g r l even = peel g l l r (λ q m d. any-in (λ p. e (key p) (key q)) m (self (key q))) even

@@ -1,0 +1,75 @@
+-- Laws of points: when two are the same, and the order of y, then x.
+use mathlib.Core.Path.{_≡_, refl, sym, _∙_}
+use mathlib.Core.Bool.{Bool, true, false, _&&_, _||_, true≢false, false≢true}
+use lib.IntN.{ℤ}
+use lib.Signed.{leZ, ltZ}
+use Rattle.plane.specs.declared.Point.{Point}
+use Rattle.plane.specs.Words.{eqZ, same, before}
+use Rattle.plane.proofs.Order.{order, eqZ-is, eqZ-refl}
+use Rattle.plane.proofs.Bools.{and-parts, and-make}
+
+-- ---- The same point
+
+pub same-is : (p q : Point) → same p q ≡ true → p ≡ q
+unfolding same
+same-is p q e =
+    let h = and-parts (eqZ (p .x) (q .x)) (eqZ (p .y) (q .y)) e in
+    λ i. record { x = eqZ-is (p .x) (q .x) (h .0) i; y = eqZ-is (p .y) (q .y) (h .1) i }
+
+pub same-refl : (p : Point) → same p p ≡ true
+unfolding same
+same-refl p = and-make _ _ (eqZ-refl (p .x)) (eqZ-refl (p .y))
+
+-- ---- The order: q is k or comes after it
+
+pub data After (q k : Point) : Type 0 where
+  above : ltZ (k .y) (q .y) ≡ true → After q k
+  along : q .y ≡ k .y → leZ (k .x) (q .x) ≡ true → After q k
+
+pub after-refl : (q : Point) → After q q
+after-refl q = along refl (omega order)
+
+pub after-trans : {q r k : Point} → After q r → After r k → After q k
+after-trans (above h) (above g) = above (omega order)
+after-trans (above h) (along e g) = above (omega order)
+after-trans (along e h) (above g) = above (omega order)
+after-trans (along e h) (along d g) = along (omega order) (omega order)
+
+pub after-no : (q k : Point) → before q k ≡ false → After q k
+unfolding before
+after-no q k = go (ltZ (q .y) (k .y)) refl (eqZ (q .y) (k .y)) refl
+  where
+    go : (b : Bool) → ltZ (q .y) (k .y) ≡ b → (c : Bool) → eqZ (q .y) (k .y) ≡ c → (b || (c && ltZ (q .x) (k .x))) ≡ false → After q k
+    go true h c g e = absurd (true≢false e)
+    go false h true g e = along (omega order) (omega order)
+    go false h false g e = above (omega order)
+
+pub after-yes : (q k : Point) → before q k ≡ true → After k q
+unfolding before
+after-yes q k = go (ltZ (q .y) (k .y)) refl (eqZ (q .y) (k .y)) refl
+  where
+    go : (b : Bool) → ltZ (q .y) (k .y) ≡ b → (c : Bool) → eqZ (q .y) (k .y) ≡ c → (b || (c && ltZ (q .x) (k .x))) ≡ true → After k q
+    go true h c g e = above h
+    go false h true g e = along (omega order) (omega order)
+    go false h false g e = absurd (false≢true e)
+
+-- two points each at or after the other are the same
+pub after-both : (k q : Point) → After q k → After k q → same k q ≡ true
+unfolding same
+after-both k q (above h) (above g) = absurd (omega order)
+after-both k q (above h) (along e g) = absurd (omega order)
+after-both k q (along e h) (above g) = absurd (omega order)
+after-both k q (along e h) (along d g) = and-make (eqZ (k .x) (q .x)) (eqZ (k .y) (q .y)) (omega order) (omega order)
+
+-- no point comes before itself
+pub before-self : (k : Point) → before k k ≡ false
+unfolding before
+before-self k =
+    let a : ltZ (k .y) (k .y) ≡ false = omega order in
+    let b : ltZ (k .x) (k .x) ≡ false = omega order in
+    rw (a, eqZ-refl (k .y), b)
+
+-- a point of a lower row comes before
+pub before-above : (k q : Point) → ltZ (k .y) (q .y) ≡ true → before k q ≡ true
+unfolding before
+before-above k q h = rw h

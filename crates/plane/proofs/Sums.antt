@@ -1,0 +1,132 @@
+-- Sums of a weight over a list, and what passes a test: any, how many.
+use mathlib.Core.Path.{_≡_, refl, sym, ap, _∙_}
+use Prim.Native.Nat.{ℕ, zero, suc, _+_, _-_, _*_, _≤_, _<_}
+use native.Mathlib.Omega.{arith}
+use native.Mathlib.Decide.{ℕ-discrete}
+use mathlib.Core.Bool.{Bool, true, false, cond, _||_, false≢true}
+use mathlib.Core.List.{List, [], _∷_, _++_, List·Memᴰ as In, List·Memᴰ·head as head, List·Memᴰ·tail as tail}
+use lib.ListN.{length, getD, take, set, length-set}
+use lib.Seq.{getD-set-same, getD-set-other}
+use Rattle.plane.specs.Lists.{bit, any, count, sum}
+use Rattle.plane.proofs.Bools.{cond-le, or-right}
+
+module _ {A : Type 0} where
+  -- ---- Sums
+
+  pub sum-append : (w : A → ℕ) (l m : List A) → sum w (l ++ m) ≡ sum w l + sum w m
+  unfolding sum
+  sum-append w [] m = omega arith
+  sum-append w (a ∷ l) m = let ih = sum-append w l m in omega arith
+
+  pub sum-one : (w : A → ℕ) (a : A) → sum w (a ∷ []) ≡ w a
+  unfolding sum
+  sum-one w a = omega arith
+
+  sum-set : (w : A → ℕ) (l : List A) (i : ℕ) (a d : A) → i < length l → sum w (set l i a) + w (getD l i d) ≡ sum w l + w a
+  unfolding sum
+  sum-set w [] i a d h = absurd (omega arith)
+  sum-set w (x ∷ xs) zero a d h = omega arith
+  sum-set w (x ∷ xs) (suc i) a d h = let ih = sum-set w xs i a d (omega arith) in omega arith
+
+  sum-last : (w : A → ℕ) (l : List A) (d : A) (j : ℕ) → length l ≡ suc j → sum w (take j l) + w (getD l j d) ≡ sum w l
+  unfolding sum
+  sum-last w [] d j e = absurd (omega arith)
+  sum-last w (x ∷ []) d zero e = omega arith
+  sum-last w (x ∷ y ∷ l) d zero e = absurd (omega arith)
+  sum-last w (x ∷ xs) d (suc j) e = let ih = sum-last w xs d j (omega arith) in omega arith
+
+  last-set : (l : List A) (i j : ℕ) (d : A) → i < length l → getD (set l i (getD l j d)) j d ≡ getD l j d
+  last-set l i j d h = go (ℕ-discrete j i)
+    where
+      go : Dec (j ≡ i) → getD (set l i (getD l j d)) j d ≡ getD l j d
+      go (yes e) = rw e (getD-set-same l i _ d h)
+      go (no n) = getD-set-other l i j _ d n
+
+  -- the last element moves into place i
+  pub sum-remove : (w : A → ℕ) (l : List A) (i : ℕ) (d : A) → i < length l → sum w (take (length l - 1) (set l i (getD l (length l - 1) d))) + w (getD l i d) ≡ sum w l
+  sum-remove w l i d h =
+      let j : ℕ = length l - 1 in
+      let v : A = getD l j d in
+      let a : sum w (set l i v) + w (getD l i d) ≡ sum w l + w v = sum-set w l i v d h in
+      let b : sum w (take j (set l i v)) + w (getD (set l i v) j d) ≡ sum w (set l i v) = sum-last w (set l i v) d j (length-set l i v ∙ omega arith) in
+      let c : w (getD (set l i v) j d) ≡ w v = ap w (last-set l i j d h) in
+      omega arith
+
+  pub sum-in : (w : A → ℕ) {l : List A} {a : A} → In a l → w a ≤ sum w l
+  unfolding sum
+  sum-in w {l = b ∷ l} {a} (head e) = let c : w a ≡ w b = ap w e in omega arith
+  sum-in w {l = b ∷ l} (tail m) = let h = sum-in w m in omega arith
+
+  pub sum-most : (w : A → ℕ) (c : ℕ) (l : List A) → ((a : A) → In a l → w a ≤ c) → sum w l ≤ length l * c
+  unfolding sum
+  sum-most w c [] h = omega arith
+  sum-most w c (a ∷ l) h = let i = sum-most w c l (λ b m. h b (tail m)) in let j = h a (head refl) in omega arith
+
+  pub sum-zero : (w : A → ℕ) (l : List A) → ((a : A) → In a l → w a ≡ 0) → sum w l ≡ 0
+  sum-zero w l h = let k = sum-most w 0 l (λ a m. omega (arith, h a m)) in omega arith
+
+  pub sum-length : (l : List A) → sum (λ a. 1) l ≡ length l
+  unfolding sum
+  sum-length [] = refl
+  sum-length (a ∷ l) = let h = sum-length l in omega arith
+
+  -- ---- Some element passes
+
+  pub any-find : (f : A → Bool) (l : List A) → any f l ≡ true → (a : A) × In a l × (f a ≡ true)
+  unfolding any
+  any-find f [] e = absurd (false≢true e)
+  any-find f (a ∷ l) e = go (any-find f l) (f a) refl e
+    where
+      go : (any f l ≡ true → (b : A) × In b l × (f b ≡ true)) → (t : Bool) → f a ≡ t → (t || any f l) ≡ true → (b : A) × In b (a ∷ l) × (f b ≡ true)
+      go ih true h e = (a, head refl, h)
+      go ih false h e = let r = ih e in (r .0, tail (r .1), r .2)
+
+  pub any-in : (f : A → Bool) {l : List A} {a : A} → In a l → f a ≡ true → any f l ≡ true
+  unfolding any
+  any-in f {l = b ∷ l} (head e) h = rw (← e, h)
+  any-in f {l = b ∷ l} (tail m) h = or-right (f b) _ (any-in f m h)
+
+  -- ---- How many pass
+
+  pub count-sum : (f : A → Bool) (l : List A) → count f l ≡ sum (λ a. bit (f a)) l
+  unfolding sum count
+  count-sum f [] = refl
+  count-sum f (a ∷ l) = go (count-sum f l) (f a)
+    where
+      go : {m n : ℕ} → m ≡ n → (b : Bool) → cond b (suc m) m ≡ bit b + n
+      go ih true = omega arith
+      go ih false = omega arith
+
+  pub count-in : (f : A → Bool) {l : List A} {a : A} → In a l → f a ≡ true → 1 ≤ count f l
+  count-in f {l} {a} m h = let e : bit (f a) ≡ 1 = ap bit h in omega (arith, count-sum f l, sum-in (λ b. bit (f b)) m)
+
+  pub count-find : (f : A → Bool) (l : List A) → 1 ≤ count f l → (a : A) × In a l × (f a ≡ true)
+  unfolding count
+  count-find f [] h = absurd (omega arith)
+  count-find f (a ∷ l) h = go (count-find f l) (f a) refl h
+    where
+      go : (1 ≤ count f l → (b : A) × In b l × (f b ≡ true)) → (t : Bool) → f a ≡ t → 1 ≤ cond t (suc (count f l)) (count f l) → (b : A) × In b (a ∷ l) × (f b ≡ true)
+      go ih true d h = (a, head refl, d)
+      go ih false d h = let r = ih h in (r .0, tail (r .1), r .2)
+
+  pub count-mono : (f g : A → Bool) (l : List A) → ((a : A) → In a l → f a ≡ true → g a ≡ true) → count f l ≤ count g l
+  unfolding count
+  count-mono f g [] s = omega arith
+  count-mono f g (a ∷ l) s = cond-le (f a) (g a) (s a (head refl)) (count-mono f g l (λ b m. s b (tail m)))
+
+  pub count-length : (f : A → Bool) (l : List A) → count f l ≤ length l
+  unfolding count
+  count-length f [] = omega arith
+  count-length f (a ∷ l) = cond-le (f a) true (λ _. refl) (count-length f l)
+
+  -- a wider test that some element tells apart counts more
+  pub count-less : (f g : A → Bool) {l : List A} {a : A} → ((b : A) → f b ≡ true → g b ≡ true) → In a l → f a ≡ false → g a ≡ true → count f l < count g l
+  unfolding count
+  count-less f g {l = b ∷ l} s (head e) h k = let i = count-mono f g l (λ b m. s b) in rw (← e, h, k) (omega arith)
+  count-less f g {l = b ∷ l} s (tail m) h k = go (f b) (g b) (s b) (count-less f g s m h k)
+    where
+      go : {m n : ℕ} (t u : Bool) → (t ≡ true → u ≡ true) → m < n → cond t (suc m) m < cond u (suc n) n
+      go true true s h = omega arith
+      go true false s h = absurd (false≢true (s refl))
+      go false true s h = omega arith
+      go false false s h = h

@@ -1,0 +1,106 @@
+-- What each entry point answers, and what each lent array holds afterwards, as functions of what it was given.
+use Prim.Native.Nat.{ℕ, _+_, _-_, _*_, _/_}
+use mathlib.Core.Bool.{cond}
+use mathlib.Core.List.{List, [], _∷_, _++_}
+use lib.ListN.{length, take, drop, replicate}
+use lib.IntN.{ℤ, pos}
+use lib.Dec.{eqb}
+use Rattle.plane.specs.declared.Point.{Point}
+use Rattle.plane.specs.declared.Rect.{Rect}
+use Rattle.plane.specs.Lists.{sum}
+use Rattle.plane.specs.Words.{areaOf, edgeOf, pointsOf, rectsOf, flatPoints, flatRects}
+use Rattle.rule.specs.declared.ForwardAnswer.{ForwardAnswer}
+use Rattle.rule.specs.declared.BackwardAnswer.{BackwardAnswer}
+use Rattle.rule.specs.declared.StepAnswer.{StepAnswer}
+use Rattle.rule.specs.declared.StepAnswer.the-variants.{Rectangle, Refused}
+use Rattle.rule.specs.Rule.{Taken, step, ruleList}
+use Rattle.rule.specs.Back.{backList}
+use Rattle.rule.specs.Table.{Verdict, accepted, refused, verdict, forwardRows, backwardRows, stepRows}
+
+-- ---- Lent arrays
+
+-- an output: the result at its start and otherwise unchanged; on a refusal unchanged
+abbrev pub written : Verdict → List ℤ → List ℤ → List ℤ
+written accepted result out = result ++ drop (length result) out
+written (refused k p) result out = out
+
+-- a working array given with n points that now holds other points: zeros after them, and past 2n unchanged
+unfoldable pub workOf : ℕ → List Point → List ℤ → List ℤ
+unfolding flatPoints
+workOf n ps work = flatPoints ps ++ (replicate (2 * (n - length ps)) (pos 0) ++ drop (2 * n) work)
+
+-- ---- Forward, of an array, the working array and the output (or their lengths)
+
+-- on 0 the list's count, area and edge; on a refusal all but answer and place are 0
+abbrev pub forwardSays : Verdict → List Rect → ForwardAnswer
+forwardSays accepted rs = record { answer = 0; place = 0; count = length rs; area = sum areaOf rs; edge = sum edgeOf rs }
+forwardSays (refused k p) rs = record { answer = k; place = p; count = 0; area = 0; edge = 0 }
+
+unfoldable pub forwardAnswer : List ℤ → ℕ → ℕ → ForwardAnswer
+unfolding verdict forwardRows ruleList pointsOf sum areaOf edgeOf
+forwardAnswer a work out = forwardSays (verdict (forwardRows a work out)) (ruleList (pointsOf a))
+
+unfoldable pub forwardOut : List ℤ → ℕ → List ℤ → List ℤ
+unfolding verdict forwardRows ruleList pointsOf flatRects
+forwardOut a work out = written (verdict (forwardRows a work (length out))) (flatRects (ruleList (pointsOf a))) out
+
+-- with 0 and 8 the first 2n numbers are 0; with any other refusal untouched
+abbrev pub drained : Verdict → ℕ → List ℤ → List ℤ
+unfolding workOf
+drained accepted n work = workOf n [] work
+drained (refused k p) n work = cond (eqb k 8) (workOf n [] work) work
+
+unfoldable pub forwardWork : List ℤ → List ℤ → ℕ → List ℤ
+unfolding verdict forwardRows workOf
+forwardWork a work out = drained (verdict (forwardRows a (length work) out)) (length a / 2) work
+
+-- ---- Backward, of an array and the output (or its length)
+
+-- on 0 the count of points; on a refusal all but answer and place are 0
+abbrev pub backwardSays : Verdict → List Point → BackwardAnswer
+backwardSays accepted ps = record { answer = 0; place = 0; count = length ps }
+backwardSays (refused k p) ps = record { answer = k; place = p; count = 0 }
+
+unfoldable pub backwardAnswer : List ℤ → ℕ → BackwardAnswer
+unfolding verdict backwardRows backList rectsOf
+backwardAnswer a out = backwardSays (verdict (backwardRows a out)) (backList (rectsOf a))
+
+unfoldable pub backwardOut : List ℤ → List ℤ → List ℤ
+unfolding verdict backwardRows backList rectsOf flatPoints
+backwardOut a out = written (verdict (backwardRows a (length out))) (flatPoints (backList (rectsOf a))) out
+
+-- ---- A step, of a working array and a count of points
+
+-- a rectangle with the new count of points, or a refusal with its place
+abbrev pub stepSays : Verdict → Taken → StepAnswer
+stepSays accepted t = Rectangle (t .rect) (length (t .left))
+stepSays (refused k p) t = Refused k p
+
+unfoldable pub stepAnswer : List ℤ → ℕ → StepAnswer
+unfolding verdict stepRows step pointsOf
+stepAnswer work n = stepSays (verdict (stepRows work n)) (step (take n (pointsOf work)))
+
+-- the points left and zeros up to twice the count given; on a refusal unchanged
+abbrev pub stepLeaves : Verdict → Taken → ℕ → List ℤ → List ℤ
+unfolding workOf
+stepLeaves accepted t n work = workOf n (t .left) work
+stepLeaves (refused k p) t n work = work
+
+unfoldable pub stepWork : List ℤ → ℕ → List ℤ
+unfolding verdict stepRows step pointsOf workOf
+stepWork work n = stepLeaves (verdict (stepRows work n)) (step (take n (pointsOf work))) n work
+
+-- ---- Document 01's number, place and values for each case of a step's answer
+
+abbrev pub stepNumber : StepAnswer → ℕ
+stepNumber (Rectangle r n) = 0
+stepNumber (Refused k p) = k
+
+abbrev pub stepPlace : StepAnswer → ℕ
+stepPlace (Rectangle r n) = 0
+stepPlace (Refused k p) = p
+
+-- the rectangle's four numbers and the new count; none with a refusal
+abbrev pub stepValues : StepAnswer → List ℤ
+stepValues (Rectangle r n) = r .x ∷ r .y ∷ r .w ∷ r .h ∷ pos n ∷ []
+stepValues (Refused k p) = []

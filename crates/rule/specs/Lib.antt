@@ -1,0 +1,4 @@
+pub mod Rule
+pub mod Back
+pub mod Table
+pub mod Answers

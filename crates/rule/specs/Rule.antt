@@ -1,0 +1,168 @@
+-- The forward rule of document 01: K, L, the amended stop row M, the rectangle, the four toggles, and the list.
+use Prim.Native.Nat.{ℕ, zero, suc, _-_, _*_}
+use mathlib.Core.Bool.{Bool, true, false, not, cond, _&&_, _||_}
+use mathlib.Core.List.{List, [], _∷_, _++_}
+use mathlib.Core.Option.{Option, none, some, Option·getD}
+use lib.ListN.{length, getD, take, set}
+use lib.IntN.{ℤ, _-ℤ_}
+use lib.Signed.{leZ, ltZ}
+use Rattle.plane.specs.declared.Point.{Point}
+use Rattle.plane.specs.declared.Rect.{Rect}
+use Rattle.plane.specs.Lists.{any, odd, keep}
+use Rattle.plane.specs.Words.{origin, eqZ, same, onRow, before}
+
+-- ---- K, L and M
+
+-- the earlier of a point and what was found, in the order of y, then x
+abbrev pub earlier : Point → Option Point → Point
+unfolding before
+earlier p none = p
+earlier p (some q) = cond (before q p) q p
+
+-- the point with what was found, if it passed
+abbrev pub orFound : Bool → Point → Option Point → Option Point
+orFound true p o = some (earlier p o)
+orFound false p o = o
+
+-- the first point, in the order of y, then x, of those that pass a test
+unfoldable pub firstOf : (Point → Bool) → List Point → Option Point
+unfolding before
+firstOf f [] = none
+firstOf f (p ∷ ps) = orFound (f p) p (firstOf f ps)
+
+-- K is the leftmost point of the lowest row
+unfoldable pub pickK : List Point → Point
+unfolding firstOf
+pickK ps = Option·getD (firstOf (λ p. true) ps) origin
+
+-- right of K on K's row
+unfoldable pub rightOf : Point → Point → Bool
+unfolding onRow
+rightOf k p = onRow (k .y) p && ltZ (k .x) (p .x)
+
+-- L is the next leftmost on that row
+unfoldable pub pickL : Point → List Point → Point
+unfolding firstOf rightOf
+pickL k ps = Option·getD (firstOf (rightOf k) ps) k
+
+-- on row y, with xK ≤ x < xL
+unfoldable pub over : ℤ → ℤ → ℤ → Point → Bool
+unfolding onRow
+over xk xl y p = onRow y p && (leZ xk (p .x) && ltZ (p .x) xl)
+
+-- on row y, with x < xK
+unfoldable pub leftOf : ℤ → ℤ → Point → Bool
+unfolding onRow
+leftOf xk y p = onRow y p && ltZ (p .x) xk
+
+-- row y stops a rectangle between xK and xL: it has a point with xK ≤ x < xL, or an odd number of points with x < xK
+unfoldable pub stops : List Point → ℤ → ℤ → ℤ → Bool
+unfolding any odd over leftOf
+stops ps xk xl y = any (over xk xl y) ps || odd (leftOf xk y) ps
+
+-- above K, on a row that stops the rectangle between K and L
+unfoldable pub stopper : Point → Point → List Point → Point → Bool
+unfolding stops
+stopper k l ps p = ltZ (k .y) (p .y) && stops ps (k .x) (l .x) (p .y)
+
+-- M is the lowest row above K's that stops the rectangle
+unfoldable pub pickM : Point → Point → List Point → ℤ
+unfolding firstOf stopper
+pickM k l ps = Option·getD (firstOf (stopper k l ps) ps) k .y
+
+-- ---- The rectangle and the toggles
+
+-- X = xK, Y = yK, W = xL - xK, H = M - yK
+unfoldable pub rectOf : Point → Point → ℤ → Rect
+rectOf k l m = record { x = k .x; y = k .y; w = l .x -ℤ k .x; h = m -ℤ k .y }
+
+-- one place further
+abbrev pub further : Bool → Option ℕ → Option ℕ
+further true o = some 0
+further false none = none
+further false (some i) = some (suc i)
+
+-- the place where a point stands, if it does
+unfoldable pub placeOf : Point → List Point → Option ℕ
+unfolding same
+placeOf p [] = none
+placeOf p (q ∷ qs) = further (same p q) (placeOf p qs)
+
+-- removing moves the last point into the freed place
+unfoldable pub remove : List Point → ℕ → List Point
+remove ps i = take (length ps - 1) (set ps i (getD ps (length ps - 1) origin))
+
+-- adding puts the point after the last
+unfoldable pub add : List Point → Point → List Point
+add ps p = ps ++ (p ∷ [])
+
+-- a present point is removed, an absent one is added
+abbrev pub toggleAt : Option ℕ → List Point → Point → List Point
+toggleAt none ps p = add ps p
+toggleAt (some i) ps p = remove ps i
+
+unfoldable pub toggle : List Point → Point → List Point
+unfolding placeOf add remove
+toggle ps p = toggleAt (placeOf p ps) ps p
+
+-- toggle four points in this order: K, L, (xK, M), (xL, M)
+unfoldable pub toggleFour : List Point → Point → Point → ℤ → List Point
+unfolding toggle
+toggleFour ps k l m = toggle (toggle (toggle (toggle ps k) l) (record { x = k .x; y = m })) (record { x = l .x; y = m })
+
+-- ---- A step and the list
+
+-- a step's rectangle, and the points that it leaves
+pub record Taken : Type 0 where
+  pub rect : Rect
+  pub left : List Point
+
+-- one step
+unfoldable pub step : List Point → Taken
+unfolding pickK pickL pickM rectOf toggleFour
+step ps =
+    let k : Point = pickK ps in
+    let l : Point = pickL k ps in
+    let m : ℤ = pickM k l ps in
+    record { rect = rectOf k l m; left = toggleFour ps k l m }
+
+-- the rectangles of so many steps, while points remain
+unfoldable pub run : ℕ → List Point → List Rect
+unfolding step
+run zero ps = []
+run (suc n) [] = []
+run (suc n) (p ∷ ps) = step (p ∷ ps) .rect ∷ run n (step (p ∷ ps) .left)
+
+-- the points left after so many steps
+unfoldable pub leftAfter : ℕ → List Point → List Point
+unfolding step
+leftAfter zero ps = ps
+leftAfter (suc n) [] = []
+leftAfter (suc n) (p ∷ ps) = leftAfter n (step (p ∷ ps) .left)
+
+-- more steps than n points can take
+abbrev pub enough : List Point → ℕ
+enough ps = length ps * length ps
+
+-- the list: the rectangles of the steps until no points remain
+unfoldable pub ruleList : List Point → List Rect
+unfolding run
+ruleList ps = run (enough ps) ps
+
+-- ---- How many rows
+
+-- the numbers of a list, each once
+unfoldable pub different : List ℤ → List ℤ
+unfolding any eqZ
+different [] = []
+different (z ∷ zs) = keep (not (any (eqZ z) zs)) z (different zs)
+
+-- the rows of points
+unfoldable pub rowsOf : List Point → List ℤ
+rowsOf [] = []
+rowsOf (p ∷ ps) = p .y ∷ rowsOf ps
+
+-- the number of different rows
+unfoldable pub rowCount : List Point → ℕ
+unfolding different rowsOf
+rowCount ps = length (different (rowsOf ps))

@@ -3,3 +3,5 @@ pub mod Bools
 pub mod Sums
 pub mod Parity
 pub mod Points
+pub mod Alike
+pub mod Cells

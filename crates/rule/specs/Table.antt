@@ -34,6 +34,11 @@ pub data Given : Row → ℕ → Type 0 where
   by-item : {k n : ℕ} {t : ℕ → Bool} (i : ℕ) → i < n → t i ≡ true → ((j : ℕ) → j < i → t j ≡ false) → Given (each k n t) i
   by-need : {k n r : ℕ} → r < n → Given (needs k n r) n
 
+-- row k of the order is given at p, and no earlier row of the order is given
+pub data FirstGiven : List Row → ℕ → ℕ → Type 0 where
+  this : {r : Row} {rows : List Row} {p : ℕ} → Given r p → FirstGiven (r ∷ rows) (numberOf r) p
+  later : {r : Row} {rows : List Row} {k p : ℕ} → ((q : ℕ) → Given r q → ⊥) → FirstGiven rows k p → FirstGiven (r ∷ rows) k p
+
 -- ---- The rows of the table
 
 -- the point, and the rectangle, at a place
@@ -133,8 +138,8 @@ pub data Verdict : Type 0 where
 
 -- a row's refusal, or else what the later rows say
 abbrev pub orLater : ℕ → Option ℕ → Verdict → Verdict
-orLater k none later = later
-orLater k (some p) later = refused k p
+orLater k none rest = rest
+orLater k (some p) rest = refused k p
 
 -- the rows in order, each over the whole input before the next
 unfoldable pub verdict : List Row → Verdict

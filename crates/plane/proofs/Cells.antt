@@ -1,0 +1,36 @@
+-- Laws of cells: a rectangle's corners mark just the cells that it holds.
+use mathlib.Core.Path.{_≡_, refl}
+use mathlib.Core.Bool.{Bool, true, false, not, _&&_, xor, false≢true}
+use lib.IntN.{ℤ}
+use lib.Signed.{leZ, ltZ}
+use Rattle.plane.specs.declared.Point.{Point}
+use Rattle.plane.specs.Words.{under}
+use Rattle.plane.proofs.Order.{order}
+
+ltZ-not : (a b : ℤ) → ltZ a b ≡ not (leZ b a)
+ltZ-not a b = go (leZ b a) refl
+  where
+    go : (c : Bool) → leZ b a ≡ c → ltZ a b ≡ not c
+    go true e = omega order
+    go false e = omega order
+
+-- the four corners at or below a cell, where A and B are the near sides and C and D the far sides
+corner-parity : (A B C D : Bool) → (C ≡ true → A ≡ true) → (D ≡ true → B ≡ true) → xor (A && B) (xor (C && B) (xor (A && D) (C && D))) ≡ ((A && not C) && (B && not D))
+unfolding xor
+corner-parity true true true true f g = refl
+corner-parity true true true false f g = refl
+corner-parity true true false true f g = refl
+corner-parity true true false false f g = refl
+corner-parity true false C true f g = absurd (false≢true (g refl))
+corner-parity true false true false f g = refl
+corner-parity true false false false f g = refl
+corner-parity false B true D f g = absurd (false≢true (f refl))
+corner-parity false true false true f g = refl
+corner-parity false true false false f g = refl
+corner-parity false false false true f g = refl
+corner-parity false false false false f g = refl
+
+-- an odd number of the corners (x, y), (x′, y), (x, y′), (x′, y′) are under a cell exactly when it lies between them
+pub corners-under : (a b x y x′ y′ : ℤ) → leZ x x′ ≡ true → leZ y y′ ≡ true → xor (under a b (record { x = x; y = y })) (xor (under a b (record { x = x′; y = y })) (xor (under a b (record { x = x; y = y′ })) (under a b (record { x = x′; y = y′ })))) ≡ ((leZ x a && ltZ a x′) && (leZ y b && ltZ b y′))
+unfolding under
+corners-under a b x y x′ y′ h v = rw (ltZ-not a x′, ltZ-not b y′) (corner-parity (leZ x a) (leZ y b) (leZ x′ a) (leZ y′ b) (λ e. omega order) (λ e. omega order))

@@ -1,0 +1,197 @@
+-- K, L and M at an accepted list that is not empty: they exist, and are what document 01 says.
+use mathlib.Core.Path.{_≡_, refl, sym, ap, _∙_, subst}
+use Prim.Native.Nat.{_≤_}
+use mathlib.Core.Bool.{Bool, true, false, not, cond, _&&_, _||_, true≢false}
+use mathlib.Core.List.{List, [], _∷_, List·Memᴰ as In, List·Memᴰ·head as head, List·Memᴰ·tail as tail}
+use mathlib.Core.Option.{Option, none, some, Option·getD}
+use lib.IntN.{ℤ}
+use lib.Signed.{leZ, ltZ}
+use Rattle.plane.specs.declared.Point.{Point}
+use Rattle.plane.specs.Lists.{any, count, odd}
+use Rattle.plane.specs.Words.{origin, eqZ, same, onRow, inColumn, before}
+use Rattle.plane.proofs.Order.{order, eqZ-is, eqZ-refl}
+use Rattle.plane.proofs.Bools.{by, by-no, and-parts, and-make, not-true, clash, xor-same}
+use Rattle.plane.proofs.Sums.{any-find, any-in}
+use Rattle.plane.proofs.Parity.{odd-cong, odd-find, odd-split, odd-one}
+use Rattle.plane.proofs.Points.{same-is, same-refl, After, above, along, after-refl, after-trans, after-no, after-yes, after-both}
+use Rattle.rule.specs.Rule.{earlier, orFound, firstOf, pickK, pickL, pickM, rightOf, over, leftOf, stops, stopper}
+use Rattle.rule.specs.Table.{Accepted}
+
+-- ---- The first point that passes a test
+
+-- k is in the list and passes, and every point of the list that passes is k or after it
+pub record IsFirst (f : Point → Bool) (ps : List Point) (k : Point) : Type 0 where
+  pub within : In k ps
+  pub passes : f k ≡ true
+  pub least : (q : Point) → In q ps → f q ≡ true → After q k
+
+data First (f : Point → Bool) (ps : List Point) : Option Point → Type 0 where
+  nothing : ((q : Point) → In q ps → f q ≡ false) → First f ps none
+  thing : {k : Point} → IsFirst f ps k → First f ps (some k)
+
+first : (f : Point → Bool) (ps : List Point) → First f ps (firstOf f ps)
+unfolding firstOf
+first f [] = nothing empty
+  where
+    empty : (q : Point) → In q [] → f q ≡ false
+    empty q n = elim n [ ]
+first f (p ∷ ps) = go (f p) refl (firstOf f ps) (first f ps)
+  where
+    alone : f p ≡ true → ((q : Point) → In q ps → f q ≡ true → After q p) → IsFirst f (p ∷ ps) p
+    alone e h = record { within = head refl; passes = e; least = low }
+      where
+        low : (q : Point) → In q (p ∷ ps) → f q ≡ true → After q p
+        low q (head d) g = rw d (after-refl p)
+        low q (tail n) g = h q n g
+
+    behind : {k : Point} → IsFirst f ps k → (f p ≡ true → After p k) → IsFirst f (p ∷ ps) k
+    behind {k} t h = record { within = tail (t .within); passes = t .passes; least = low }
+      where
+        low : (q : Point) → In q (p ∷ ps) → f q ≡ true → After q k
+        low q (head d) g = rw d (h (subst (λ (r : Point). f r ≡ true) d g))
+        low q (tail n) g = t .least q n g
+
+    go : (b : Bool) → f p ≡ b → (o : Option Point) → First f ps o → First f (p ∷ ps) (orFound b p o)
+    go false e none (nothing h) = nothing none-of
+      where
+        none-of : (q : Point) → In q (p ∷ ps) → f q ≡ false
+        none-of q (head d) = rw d e
+        none-of q (tail n) = h q n
+    go false e (some k) (thing t) = thing (behind t (λ g. clash g e))
+    go true e none (nothing h) = thing (alone e (λ q n g. clash g (h q n)))
+    go true e (some k) (thing t) = choose (before k p) refl
+      where
+        choose : (c : Bool) → before k p ≡ c → First f (p ∷ ps) (some (cond c k p))
+        choose true l = thing (behind t (λ g. after-yes k p l))
+        choose false l = thing (alone e (λ q n g. after-trans (t .least q n g) (after-no k p l)))
+
+-- where some point passes, the first is found
+first-found : (f : Point → Bool) (ps : List Point) (d : Point) {q : Point} → In q ps → f q ≡ true → IsFirst f ps (Option·getD (firstOf f ps) d)
+first-found f ps d {q} n e = go (firstOf f ps) (first f ps)
+  where
+    go : (o : Option Point) → First f ps o → IsFirst f ps (Option·getD o d)
+    go none (nothing h) = clash e (h q n)
+    go (some k) (thing t) = t
+
+-- the first is the only one, and is the same for lists with the same points that pass
+pub first-unique : {f g : Point → Bool} {ps qs : List Point} {k l : Point} → IsFirst f ps k → IsFirst g qs l → In k qs → g k ≡ true → In l ps → f l ≡ true → k ≡ l
+first-unique {k = k} {l} s t nk gk nl fl = same-is k l (after-both k l (s .least l nl fl) (t .least k nk gk))
+
+-- ---- K, L and M as document 01 describes them
+
+pub record Picked (ps : List Point) (k l : Point) (m : ℤ) : Type 0 where
+  pub first-k : IsFirst (λ p. true) ps k
+  pub first-l : IsFirst (rightOf k) ps l
+  pub on-m : Point
+  pub first-m : IsFirst (stopper k l ps) ps on-m
+  pub row-m : on-m .y ≡ m
+
+module _ {ps : List Point} {k l : Point} {m : ℤ} (c : Picked ps k l m) where
+  -- every point is K or after it
+  pub after-k : (q : Point) → In q ps → After q k
+  after-k q n = c .first-k .least q n refl
+
+  -- L is on K's row
+  pub level : l .y ≡ k .y
+  unfolding rightOf onRow
+  level = eqZ-is _ _ (and-parts (onRow (k .y) l) (ltZ (k .x) (l .x)) (c .first-l .passes) .0)
+
+  -- L is right of K
+  pub right-of : ltZ (k .x) (l .x) ≡ true
+  unfolding rightOf
+  right-of = and-parts (onRow (k .y) l) (ltZ (k .x) (l .x)) (c .first-l .passes) .1
+
+  -- no point lies between K and L
+  pub gap : (q : Point) → In q ps → q .y ≡ k .y → ltZ (k .x) (q .x) ≡ true → leZ (l .x) (q .x) ≡ true
+  unfolding rightOf onRow
+  gap q n e h = go (c .first-l .least q n (and-make (onRow (k .y) q) (ltZ (k .x) (q .x)) (omega order) h))
+    where
+      go : After q l → leZ (l .x) (q .x) ≡ true
+      go (above g) = let d = level in absurd (omega order)
+      go (along d g) = g
+
+  m-passes : (ltZ (k .y) (c .on-m .y) ≡ true) × (stops ps (k .x) (l .x) (c .on-m .y) ≡ true)
+  unfolding stopper
+  m-passes = and-parts (ltZ (k .y) (c .on-m .y)) (stops ps (k .x) (l .x) (c .on-m .y)) (c .first-m .passes)
+
+  -- M is above K's row, and stops
+  pub higher : ltZ (k .y) m ≡ true
+  higher = rw (c .row-m) at (m-passes .0)
+
+  pub stop-m : stops ps (k .x) (l .x) m ≡ true
+  stop-m = rw (c .row-m) at (m-passes .1)
+
+  -- no row of a point between K's and M stops
+  pub clear : (q : Point) → In q ps → ltZ (k .y) (q .y) ≡ true → ltZ (q .y) m ≡ true → stops ps (k .x) (l .x) (q .y) ≡ false
+  unfolding stopper
+  clear q n h g = by-no (stops ps (k .x) (l .x) (q .y)) (λ e. go (c .first-m .least q n (and-make (ltZ (k .y) (q .y)) (stops ps (k .x) (l .x) (q .y)) h e)))
+    where
+      go : After q (c .on-m) → ⊥
+      go (above d) = let e = c .row-m in omega order
+      go (along d i) = let e = c .row-m in omega order
+
+  -- K and L are two points
+  pub apart : same l k ≡ false
+  unfolding same
+  apart = let r = right-of in let d : eqZ (l .x) (k .x) ≡ false = omega order in rw d
+
+-- ---- They exist
+
+-- an even test that K passes has another point
+another : (f : Point → Bool) {k : Point} {ps : List Point} → In k ps → count (same k) ps ≤ 1 → f k ≡ true → odd f ps ≡ false → (q : Point) × In q ps × (same k q ≡ false) × (f q ≡ true)
+another f {k} {ps} n o e h =
+    let one : odd (λ q. same k q && f q) ps ≡ true = odd-cong (λ q. same k q && f q) (same k) ps (λ q i. only q (same k q) refl) ∙ odd-one (same k) n (same-refl k) o in
+    let rest : odd (λ q. not (same k q) && f q) ps ≡ true = sym (xor-same _ _ (sym (odd-split (same k) f ps) ∙ h)) ∙ one in
+    let r = odd-find (λ q. not (same k q) && f q) ps rest in
+    let g = and-parts (not (same k (r .0))) (f (r .0)) (r .2) in
+    (r .0, r .1, not-true (same k (r .0)) (g .0), g .1)
+  where
+    only : (q : Point) (b : Bool) → same k q ≡ b → (b && f q) ≡ b
+    only q true d = rw (← same-is k q d) e
+    only q false d = refl
+
+-- two points that differ, on one row or in one column
+apart-x : (k q : Point) → same k q ≡ false → q .y ≡ k .y → After q k → ltZ (k .x) (q .x) ≡ true
+unfolding same
+apart-x k q e d (above h) = absurd (omega order)
+apart-x k q e d (along g h) = by (ltZ (k .x) (q .x)) (λ i. clash (and-make (eqZ (k .x) (q .x)) (eqZ (k .y) (q .y)) (omega order) (omega order)) e)
+
+apart-y : (k q : Point) → same k q ≡ false → q .x ≡ k .x → After q k → ltZ (k .y) (q .y) ≡ true
+unfolding same
+apart-y k q e d (above h) = h
+apart-y k q e d (along g h) = clash (and-make (eqZ (k .x) (q .x)) (eqZ (k .y) (q .y)) (omega order) (omega order)) e
+
+module _ {ps : List Point} {k : Point} (acc : Accepted ps) (f : IsFirst (λ p. true) ps k) where
+  -- K's row is even, so it has a second point
+  l-exists : IsFirst (rightOf k) ps (pickL k ps)
+  unfolding pickL rightOf onRow
+  l-exists =
+      let q = another (onRow (k .y)) (f .within) (acc .once k) (eqZ-refl (k .y)) (acc .rows (k .y)) in
+      let e : q .0 .y ≡ k .y = eqZ-is _ _ (q .3) in
+      first-found (rightOf k) ps k (q .1) (and-make _ _ (q .3) (apart-x k (q .0) (q .2) e (f .least (q .0) (q .1) refl)))
+
+  -- K's column is even, so a point stands above K, and stops
+  m-exists : (l : Point) → ltZ (k .x) (l .x) ≡ true → IsFirst (stopper k l ps) ps (Option·getD (firstOf (stopper k l ps) ps) k)
+  unfolding stopper stops over onRow inColumn
+  m-exists l r =
+      let q = another (inColumn (k .x)) (f .within) (acc .once k) (eqZ-refl (k .x)) (acc .columns (k .x)) in
+      let e : q .0 .x ≡ k .x = eqZ-is _ _ (q .3) in
+      let inside = any-in (over (k .x) (l .x) (q .0 .y)) (q .1) (and-make _ _ (eqZ-refl (q .0 .y)) (and-make (leZ (k .x) (q .0 .x)) (ltZ (q .0 .x) (l .x)) (omega order) (omega order))) in
+      first-found (stopper k l ps) ps k (q .1) (and-make _ _ (apart-y k (q .0) (q .2) e (f .least (q .0) (q .1) refl)) (rw inside))
+
+-- L and M exist, at an accepted list that is not empty
+pub picks : (p : Point) (qs : List Point) → Accepted (p ∷ qs) → let ps = p ∷ qs in Picked ps (pickK ps) (pickL (pickK ps) ps) (pickM (pickK ps) (pickL (pickK ps) ps) ps)
+unfolding pickK pickM rightOf
+picks p qs acc =
+    let ps : List Point = p ∷ qs in
+    let k : Point = pickK ps in
+    let l : Point = pickL k ps in
+    let fk : IsFirst (λ p. true) ps k = first-found (λ p. true) ps origin (head refl) refl in
+    let fl : IsFirst (rightOf k) ps l = l-exists acc fk in
+    record {
+      first-k = fk;
+      first-l = fl;
+      on-m = Option·getD (firstOf (stopper k l ps) ps) k;
+      first-m = m-exists acc fk l (and-parts (onRow (k .y) l) (ltZ (k .x) (l .x)) (fl .passes) .1);
+      row-m = refl;
+    }

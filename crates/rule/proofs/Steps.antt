@@ -1,0 +1,119 @@
+-- One step of the rule at an accepted list, and a run of steps without a bound on their number.
+use mathlib.Core.Path.{_≡_, refl, sym, ap, _∙_}
+use Prim.Native.Nat.{ℕ, zero, suc, _+_, _≤_}
+use native.Mathlib.Omega.{arith}
+use mathlib.Core.Bool.{Bool, true, false, not, _&&_, xor}
+use mathlib.Core.Logic.{_⊎_, inl, inr}
+use mathlib.Core.List.{List, [], _∷_, List·Memᴰ as In}
+use lib.ListN.{length}
+use lib.IntN.{ℤ, pos, _-ℤ_}
+use lib.Signed.{ltZ}
+use Rattle.plane.specs.declared.Point.{Point}
+use Rattle.plane.specs.declared.Rect.{Rect}
+use Rattle.plane.specs.Lists.{bit, sum, odd}
+use Rattle.plane.specs.Words.{eqZ, same, onRow, inColumn, before, inRange, pointInRange, rectInRange, flat}
+use Rattle.plane.proofs.Order.{order, add-up, far-side, one-pos}
+use Rattle.plane.proofs.Bools.{by, and-parts, and-make, xor-back, xor-left-comm}
+use Rattle.plane.proofs.Sums.{sum-in, sum-zero, sum-length, count-in}
+use Rattle.plane.proofs.Points.{same-refl}
+use Rattle.rule.specs.Rule.{pickK, pickL, pickM, rectOf, toggleFour, step, run, leftAfter}
+use Rattle.rule.specs.Table.{Accepted}
+use Rattle.rule.proofs.Toggle.{odd-four, once-four, sum-four}
+use Rattle.rule.proofs.Picks.{Picked, level, right-of, higher, apart, picks}
+
+-- ---- One step
+
+module _ {ps : List Point} {k l : Point} {m : ℤ} (c : Picked ps k l m) where
+  -- K and L go, (xK, M) and (xL, M) may come: for every weight
+  pub sum-step : (w : Point → ℕ) → sum w (toggleFour ps k l m) + (w k + w l) ≤ sum w ps + (w (record { x = k .x; y = m }) + w (record { x = l .x; y = m }))
+  sum-step = sum-four ps k l m (count-in (same k) (c .first-k .within) (same-refl k)) (count-in (same l) (c .first-l .within) (same-refl l)) (apart c)
+
+  -- the number of points never grows
+  pub step-no-growth : length (toggleFour ps k l m) ≤ length ps
+  step-no-growth = omega (arith, sum-length ps, sum-length (toggleFour ps k l m), sum-step (λ p. 1))
+
+  -- a test that K, L and (xK, M), (xL, M) pass, and that every point passed, every point left passes
+  pub step-all : (f : Point → Bool) → ((q : Point) → In q ps → f q ≡ true) → f (record { x = k .x; y = m }) ≡ true → f (record { x = l .x; y = m }) ≡ true → (q : Point) → In q (toggleFour ps k l m) → f q ≡ true
+  step-all f h km lm q n =
+      let a : bit (not (f (record { x = k .x; y = m }))) ≡ 0 = ap (λ t. bit (not t)) km in
+      let b : bit (not (f (record { x = l .x; y = m }))) ≡ 0 = ap (λ t. bit (not t)) lm in
+      let z = sum-zero (λ p. bit (not (f p))) ps (λ p i. ap (λ t. bit (not t)) (h p i)) in
+      by (f q) (λ e. let o : bit (not (f q)) ≡ 1 = ap (λ t. bit (not t)) e in omega (arith, sum-step (λ p. bit (not (f p))), sum-in (λ p. bit (not (f p))) n))
+
+  -- each side is at least 1
+  pub step-solid : flat (rectOf k l m) ≡ false
+  unfolding flat rectOf
+  step-solid = rw (positive (k .x) (l .x) (right-of c), positive (k .y) m (higher c))
+    where
+      positive : (a b : ℤ) → ltZ a b ≡ true → ltZ (b -ℤ a) (pos 1) ≡ false
+      positive a b h = omega (order, add-up a (b -ℤ a), far-side a b, one-pos)
+
+  module _ (acc : Accepted ps) where
+    range-k : (inRange (k .x) ≡ true) × (inRange (k .y) ≡ true)
+    unfolding pointInRange
+    range-k = and-parts (inRange (k .x)) (inRange (k .y)) (acc .range k (c .first-k .within))
+
+    range-l : (inRange (l .x) ≡ true) × (inRange (l .y) ≡ true)
+    unfolding pointInRange
+    range-l = and-parts (inRange (l .x)) (inRange (l .y)) (acc .range l (c .first-l .within))
+
+    range-m : inRange m ≡ true
+    unfolding pointInRange
+    range-m = rw (c .row-m) at (and-parts (inRange (c .on-m .x)) (inRange (c .on-m .y)) (acc .range (c .on-m) (c .first-m .within)) .1)
+
+    -- X, Y, X + W and Y + H are coordinates of the points, so they are in range
+    pub step-in-range : rectInRange (rectOf k l m) ≡ true
+    unfolding rectInRange rectOf
+    step-in-range = rw (far-side (k .x) (l .x), far-side (k .y) m, range-k .0, range-k .1, range-l .0, range-m)
+
+    -- a step keeps rows and columns even, points distinct and all in range
+    pub step-accepted : Accepted (toggleFour ps k l m)
+    unfolding onRow inColumn pointInRange
+    step-accepted = record {
+      range = step-all pointInRange (acc .range) (and-make _ _ (range-k .0) range-m) (and-make _ _ (range-l .0) range-m);
+      once = once-four ps k l m (acc .once);
+      rows = λ y. odd-four (onRow y) ps k l m ∙ xor-back (eqZ m y) _ ∙ rw (level c) (xor-back (eqZ (k .y) y) _) ∙ acc .rows y;
+      columns = λ x. odd-four (inColumn x) ps k l m ∙ pairs (eqZ (k .x) x) (eqZ (l .x) x) _ ∙ acc .columns x;
+    }
+      where
+        pairs : (a b r : Bool) → xor b (xor a (xor b (xor a r))) ≡ r
+        pairs a b r = rw (xor-left-comm a b (xor a r)) (xor-back b _ ∙ xor-back a r)
+
+-- ---- The steps as a relation: from the points, the rectangles made and the points left
+
+pub data Steps : List Point → List Rect → List Point → Type 0 where
+  stay : {ps : List Point} → Steps ps [] ps
+  more : {ps qs : List Point} {rs : List Rect} (k l : Point) (m : ℤ) → Accepted ps → Picked ps k l m → Steps (toggleFour ps k l m) rs qs → Steps ps (rectOf k l m ∷ rs) qs
+
+-- the rule's run is such a run of steps
+pub steps : (n : ℕ) (ps : List Point) → Accepted ps → Steps ps (run n ps) (leftAfter n ps)
+unfolding run leftAfter step
+steps zero ps acc = stay
+steps (suc n) [] acc = stay
+steps (suc n) (p ∷ qs) acc =
+    let ps : List Point = p ∷ qs in
+    let k : Point = pickK ps in
+    let l : Point = pickL k ps in
+    let m : ℤ = pickM k l ps in
+    let c = picks p qs acc in
+    more k l m acc c (steps n (toggleFour ps k l m) (step-accepted c acc))
+
+-- every step keeps the points accepted, and their number never grows
+pub steps-accepted : {ps qs : List Point} {rs : List Rect} → Steps ps rs qs → Accepted ps → Accepted qs
+steps-accepted stay acc = acc
+steps-accepted (more k l m _ c s) acc = steps-accepted s (step-accepted c acc)
+
+pub steps-no-growth : {ps qs : List Point} {rs : List Rect} → Steps ps rs qs → length qs ≤ length ps
+steps-no-growth stay = omega arith
+steps-no-growth (more k l m _ c s) = let h = steps-no-growth s in let g = step-no-growth c in omega arith
+
+-- fuel that is not used up leaves no points
+pub spent : (n : ℕ) (ps : List Point) → (leftAfter n ps ≡ []) ⊎ (length (run n ps) ≡ n)
+unfolding run leftAfter
+spent zero ps = inr refl
+spent (suc n) [] = inl refl
+spent (suc n) (p ∷ qs) = go (spent n (step (p ∷ qs) .left))
+  where
+    go : (leftAfter n (step (p ∷ qs) .left) ≡ []) ⊎ (length (run n (step (p ∷ qs) .left)) ≡ n) → (leftAfter n (step (p ∷ qs) .left) ≡ []) ⊎ (suc (length (run n (step (p ∷ qs) .left))) ≡ suc n)
+    go (inl e) = inl e
+    go (inr e) = inr (ap suc e)

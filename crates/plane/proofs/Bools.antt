@@ -33,6 +33,13 @@ and-parts false b e = absurd (false≢true e)
 pub and-make : (a b : Bool) → a ≡ true → b ≡ true → (a && b) ≡ true
 and-make a b e f = rw (e, f)
 
+pub and-four : (a b c d : Bool) → ((a && b) && (c && d)) ≡ true → (a ≡ true) × (b ≡ true) × (c ≡ true) × (d ≡ true)
+and-four a b c d e =
+    let h = and-parts (a && b) (c && d) e in
+    let l = and-parts a b (h .0) in
+    let r = and-parts c d (h .1) in
+    (l .0, l .1, r .0, r .1)
+
 pub or-parts : (a b : Bool) → (a || b) ≡ false → (a ≡ false) × (b ≡ false)
 or-parts true b e = absurd (true≢false e)
 or-parts false b e = (refl, e)

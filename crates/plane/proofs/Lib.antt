@@ -5,3 +5,4 @@ pub mod Parity
 pub mod Points
 pub mod Alike
 pub mod Cells
+pub mod Grid

@@ -132,9 +132,9 @@ add-up (negsuc a) (negsuc b) = omega arith
 pub far-side : (a b : ℤ) → a +ℤ (b -ℤ a) ≡ b
 far-side a b = +ℤ-comm a (b -ℤ a) ∙ -ℤ-+ℤ-cancel b a
 
-pub one-pos : (up (pos 1) ≡ 1) × (dn (pos 1) ≡ 0)
+pub pos-up : (n : ℕ) → (up (pos n) ≡ n) × (dn (pos n) ≡ 0)
 unfolding up dn
-one-pos = (refl, refl)
+pos-up n = (refl, refl)
 
 pub pred-up : (z : ℤ) → up (predℤ z) + dn z + 1 ≡ dn (predℤ z) + up z
 unfolding up dn

@@ -1,5 +1,5 @@
 -- Sums of a weight over a list, and what passes a test: any, how many.
-use mathlib.Core.Path.{_≡_, refl, sym, ap, _∙_}
+use mathlib.Core.Path.{_≡_, refl, sym, ap, ap₂, _∙_}
 use Prim.Native.Nat.{ℕ, zero, suc, _+_, _-_, _*_, _≤_, _<_}
 use native.Mathlib.Omega.{arith}
 use native.Mathlib.Decide.{ℕ-discrete}
@@ -64,6 +64,16 @@ module _ {A : Type 0} where
 
   pub sum-zero : (w : A → ℕ) (l : List A) → ((a : A) → In a l → w a ≡ 0) → sum w l ≡ 0
   sum-zero w l h = let k = sum-most w 0 l (λ a m. omega (arith, h a m)) in omega arith
+
+  pub sum-cong : (u v : A → ℕ) (l : List A) → ((a : A) → In a l → u a ≡ v a) → sum u l ≡ sum v l
+  unfolding sum
+  sum-cong u v [] h = refl
+  sum-cong u v (a ∷ l) h = ap₂ _+_ (h a (head refl)) (sum-cong u v l (λ b m. h b (tail m)))
+
+  pub sum-add : (u v : A → ℕ) (l : List A) → sum (λ a. u a + v a) l ≡ sum u l + sum v l
+  unfolding sum
+  sum-add u v [] = omega arith
+  sum-add u v (a ∷ l) = let ih = sum-add u v l in omega arith
 
   pub sum-length : (l : List A) → sum (λ a. 1) l ≡ length l
   unfolding sum

@@ -18,7 +18,7 @@ use Rattle.plane.proofs.Order.{order, eqZ-is, eqZ-refl}
 use Rattle.plane.proofs.Bools.{even-half, isOdd}
 use Rattle.plane.proofs.Sums.{any-find, any-in, count-find, count-less, count-length, sum-most, sum-length}
 use Rattle.plane.proofs.Parity.{odd-sum, odd-cong}
-use Rattle.rule.specs.Rule.{toggleFour, run, leftAfter, enough, ruleList, different, rowsOf, rowCount}
+use Rattle.rule.specs.Rule.{toggleFour, step, run, leftAfter, enough, ruleList, different, rowsOf, rowCount}
 use Rattle.rule.specs.Table.{Accepted}
 use Rattle.rule.proofs.Picks.{Picked, level, higher, picks}
 use Rattle.rule.proofs.Inside.{rows-even}
@@ -116,20 +116,20 @@ start-weight ps R h = sum-most (λ p. rank R (p .y)) (length R - 1) ps (λ q n. 
 -- ---- The run ends
 
 -- with steps enough for the weight no point is left
-run-ends : (f : ℕ) (ps : List Point) (R : List ℤ) → Accepted ps → Listed R ps → weight R ps ≤ f + f → leftAfter f ps ≡ []
-run-ends f ps R acc h w = go (leftAfter f ps) refl (spent f ps)
+run-ends : (f : ℕ) (ps : List Point) (R : List ℤ) → Accepted ps → Listed R ps → weight R ps ≤ f + f → leftAfter step f ps ≡ []
+run-ends f ps R acc h w = go (leftAfter step f ps) refl (spent f ps)
   where
-    go : (qs : List Point) → leftAfter f ps ≡ qs → (leftAfter f ps ≡ []) ⊎ (length (run f ps) ≡ f) → leftAfter f ps ≡ []
+    go : (qs : List Point) → leftAfter step f ps ≡ qs → (leftAfter step f ps ≡ []) ⊎ (length (run step f ps) ≡ f) → leftAfter step f ps ≡ []
     go qs e (inl d) = d
     go [] e (inr d) = e
     go (q ∷ qs) e (inr d) =
-        let s : Steps ps (run f ps) (q ∷ qs) = rw e at (steps f ps acc) in
+        let s : Steps ps (run step f ps) (q ∷ qs) = rw e at (steps f ps acc) in
         let t = steps-weight s R h in
         let g = step-weight (picks q qs (steps-accepted s acc)) R (t .0) in
         absurd (omega (arith, t .1))
 
 -- the run of an accepted array ends with no points left
-pub rule-ends : (ps : List Point) → Accepted ps → leftAfter (enough ps) ps ≡ []
+pub rule-ends : (ps : List Point) → Accepted ps → leftAfter step (enough ps) ps ≡ []
 rule-ends ps acc =
     let R : List ℤ = different (rowsOf ps) in
     let few : length R - 1 ≤ length ps = omega (arith, rows-length ps, different-few (rowsOf ps)) in

@@ -6,3 +6,4 @@ pub mod Bound
 pub mod Cover
 pub mod Rising
 pub mod Canon
+pub mod Area

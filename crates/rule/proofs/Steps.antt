@@ -12,11 +12,11 @@ use Rattle.plane.specs.declared.Point.{Point}
 use Rattle.plane.specs.declared.Rect.{Rect}
 use Rattle.plane.specs.Lists.{bit, sum, odd}
 use Rattle.plane.specs.Words.{eqZ, same, onRow, inColumn, before, inRange, pointInRange, rectInRange, flat}
-use Rattle.plane.proofs.Order.{order, add-up, far-side, one-pos}
+use Rattle.plane.proofs.Order.{order, add-up, far-side, pos-up}
 use Rattle.plane.proofs.Bools.{by, and-parts, and-make, xor-back, xor-left-comm}
 use Rattle.plane.proofs.Sums.{sum-in, sum-zero, sum-length, count-in}
 use Rattle.plane.proofs.Points.{same-refl}
-use Rattle.rule.specs.Rule.{pickK, pickL, pickM, rectOf, toggleFour, step, run, leftAfter}
+use Rattle.rule.specs.Rule.{pickK, pickL, pickM, rectOf, toggleFour, taken, step, run, leftAfter}
 use Rattle.rule.specs.Table.{Accepted}
 use Rattle.rule.proofs.Toggle.{odd-four, once-four, sum-four}
 use Rattle.rule.proofs.Picks.{Picked, level, right-of, higher, apart, picks}
@@ -46,7 +46,7 @@ module _ {ps : List Point} {k l : Point} {m : ℤ} (c : Picked ps k l m) where
   step-solid = rw (positive (k .x) (l .x) (right-of c), positive (k .y) m (higher c))
     where
       positive : (a b : ℤ) → ltZ a b ≡ true → ltZ (b -ℤ a) (pos 1) ≡ false
-      positive a b h = omega (order, add-up a (b -ℤ a), far-side a b, one-pos)
+      positive a b h = omega (order, add-up a (b -ℤ a), far-side a b, pos-up 1)
 
   module _ (acc : Accepted ps) where
     range-k : (inRange (k .x) ≡ true) × (inRange (k .y) ≡ true)
@@ -86,8 +86,8 @@ pub data Steps : List Point → List Rect → List Point → Type 0 where
   more : {ps qs : List Point} {rs : List Rect} (k l : Point) (m : ℤ) → Accepted ps → Picked ps k l m → Steps (toggleFour ps k l m) rs qs → Steps ps (rectOf k l m ∷ rs) qs
 
 -- the rule's run is such a run of steps
-pub steps : (n : ℕ) (ps : List Point) → Accepted ps → Steps ps (run n ps) (leftAfter n ps)
-unfolding run leftAfter step
+pub steps : (n : ℕ) (ps : List Point) → Accepted ps → Steps ps (run step n ps) (leftAfter step n ps)
+unfolding run leftAfter step taken
 steps zero ps acc = stay
 steps (suc n) [] acc = stay
 steps (suc n) (p ∷ qs) acc =
@@ -108,12 +108,12 @@ steps-no-growth stay = omega arith
 steps-no-growth (more k l m _ c s) = let h = steps-no-growth s in let g = step-no-growth c in omega arith
 
 -- fuel that is not used up leaves no points
-pub spent : (n : ℕ) (ps : List Point) → (leftAfter n ps ≡ []) ⊎ (length (run n ps) ≡ n)
+pub spent : (n : ℕ) (ps : List Point) → (leftAfter step n ps ≡ []) ⊎ (length (run step n ps) ≡ n)
 unfolding run leftAfter
 spent zero ps = inr refl
 spent (suc n) [] = inl refl
 spent (suc n) (p ∷ qs) = go (spent n (step (p ∷ qs) .left))
   where
-    go : (leftAfter n (step (p ∷ qs) .left) ≡ []) ⊎ (length (run n (step (p ∷ qs) .left)) ≡ n) → (leftAfter n (step (p ∷ qs) .left) ≡ []) ⊎ (suc (length (run n (step (p ∷ qs) .left))) ≡ suc n)
+    go : (leftAfter step n (step (p ∷ qs) .left) ≡ []) ⊎ (length (run step n (step (p ∷ qs) .left)) ≡ n) → (leftAfter step n (step (p ∷ qs) .left) ≡ []) ⊎ (suc (length (run step n (step (p ∷ qs) .left))) ≡ suc n)
     go (inl e) = inl e
     go (inr e) = inr (ap suc e)

@@ -117,28 +117,30 @@ pub record Taken : Type 0 where
   pub rect : Rect
   pub left : List Point
 
+-- the rectangle between K, L and M, with its four toggles
+unfoldable pub taken : Point → Point → ℤ → List Point → Taken
+unfolding rectOf toggleFour
+taken k l m ps = record { rect = rectOf k l m; left = toggleFour ps k l m }
+
 -- one step
 unfoldable pub step : List Point → Taken
-unfolding pickK pickL pickM rectOf toggleFour
+unfolding pickK pickL pickM taken
 step ps =
     let k : Point = pickK ps in
     let l : Point = pickL k ps in
-    let m : ℤ = pickM k l ps in
-    record { rect = rectOf k l m; left = toggleFour ps k l m }
+    taken k l (pickM k l ps) ps
 
 -- the rectangles of so many steps, while points remain
-unfoldable pub run : ℕ → List Point → List Rect
-unfolding step
-run zero ps = []
-run (suc n) [] = []
-run (suc n) (p ∷ ps) = step (p ∷ ps) .rect ∷ run n (step (p ∷ ps) .left)
+unfoldable pub run : (List Point → Taken) → ℕ → List Point → List Rect
+run next zero ps = []
+run next (suc n) [] = []
+run next (suc n) (p ∷ ps) = next (p ∷ ps) .rect ∷ run next n (next (p ∷ ps) .left)
 
 -- the points left after so many steps
-unfoldable pub leftAfter : ℕ → List Point → List Point
-unfolding step
-leftAfter zero ps = ps
-leftAfter (suc n) [] = []
-leftAfter (suc n) (p ∷ ps) = leftAfter n (step (p ∷ ps) .left)
+unfoldable pub leftAfter : (List Point → Taken) → ℕ → List Point → List Point
+leftAfter next zero ps = ps
+leftAfter next (suc n) [] = []
+leftAfter next (suc n) (p ∷ ps) = leftAfter next n (next (p ∷ ps) .left)
 
 -- more steps than n points can take
 abbrev pub enough : List Point → ℕ
@@ -146,8 +148,8 @@ enough ps = length ps * length ps
 
 -- the list: the rectangles of the steps until no points remain
 unfoldable pub ruleList : List Point → List Rect
-unfolding run
-ruleList ps = run (enough ps) ps
+unfolding run step
+ruleList ps = run step (enough ps) ps
 
 -- ---- How many rows
 

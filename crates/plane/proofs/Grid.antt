@@ -1,0 +1,139 @@
+-- Counting cells: rectangles that together hold just the cells that pass a test, each once, have areas that add up to
+-- the number of those cells. All is proved for a square of n by n cells at (z, z), and the range is one such square.
+use mathlib.Core.Path.{_≡_, refl, sym, ap, ap₂, fun-ext, _∙_}
+use Prim.Native.Nat.{ℕ, zero, suc, _+_, _-_, _*_, _≤_, min}
+use native.Mathlib.Omega.{arith}
+use mathlib.Core.Bool.{Bool, true, false, _&&_, true≢false}
+use mathlib.Core.List.{List, List·Memᴰ as In}
+use lib.IntN.{ℤ, pos, negsuc, natAbs, _+ℤ_}
+use lib.Signed.{leZ, ltZ}
+use Rattle.plane.specs.declared.Rect.{Rect}
+use Rattle.plane.specs.Lists.{bit, count, sum, sumBelow}
+use Rattle.plane.specs.Words.{lowEnd, highEnd, inRange, right, top, rectInRange, flat, areaOf, holds, cellsFrom, cells}
+use Rattle.plane.proofs.Order.{order, up, dn, add-up, pos-up}
+use Rattle.plane.proofs.Bools.{and-parts, and-four, or-parts}
+use Rattle.plane.proofs.Sums.{sum-zero, sum-cong, sum-add, count-sum}
+
+-- ---- Sums over the numbers below n
+
+below-cong : (n : ℕ) {u v : ℕ → ℕ} → ((i : ℕ) → u i ≡ v i) → sumBelow n u ≡ sumBelow n v
+below-cong n h = ap (sumBelow n) (fun-ext h)
+
+below-most : (n c : ℕ) (u : ℕ → ℕ) → ((i : ℕ) → u i ≤ c) → sumBelow n u ≤ n * c
+unfolding sumBelow
+below-most zero c u h = omega arith
+below-most (suc n) c u h = let ih = below-most n c u h in omega (arith, h n)
+
+below-zero : (n : ℕ) → sumBelow n (λ i. 0) ≡ 0
+below-zero n = omega (arith, below-most n 0 (λ i. 0) (λ i. omega arith))
+
+-- sums over a list, added up the other way round
+below-sum : {A : Type 0} (n : ℕ) (w : ℕ → A → ℕ) (l : List A) → sumBelow n (λ i. sum (w i) l) ≡ sum (λ a. sumBelow n (λ i. w i a)) l
+unfolding sumBelow
+below-sum zero w l = sym (sum-zero (λ a. 0) l (λ a m. refl))
+below-sum (suc n) w l = ap (λ k. sum (w n) l + k) (below-sum n w l) ∙ sym (sum-add (w n) (λ a. sumBelow n (λ i. w i a)) l)
+
+-- the pairs of which both sides pass their test
+below-pairs : (f g : ℕ → Bool) (n m : ℕ) → sumBelow n (λ i. sumBelow m (λ j. bit (f i && g j))) ≡ sumBelow n (λ i. bit (f i)) * sumBelow m (λ j. bit (g j))
+unfolding sumBelow
+below-pairs f g zero m = omega arith
+below-pairs f g (suc n) m = go (f n) _ _ (below-pairs f g n m)
+  where
+    go : (b : Bool) (p q : ℕ) → p ≡ q * sumBelow m (λ j. bit (g j)) → sumBelow m (λ j. bit (b && g j)) + p ≡ (bit b + q) * sumBelow m (λ j. bit (g j))
+    go true p q ih = omega arith
+    go false p q ih = omega (arith, below-zero m)
+
+-- ---- Numbers between two ends, among the n numbers from z on
+
+-- how far x is above z, where it is
+abbrev gap : ℤ → ℤ → ℕ
+gap z x = (up x + dn z) - (up z + dn x)
+
+-- those from x up to y are those below y, less those below x
+between : (z x y : ℤ) (n : ℕ) → leZ z x ≡ true → leZ x y ≡ true → sumBelow n (λ i. bit (leZ x (z +ℤ pos i) && ltZ (z +ℤ pos i) y)) + min n (gap z x) ≡ min n (gap z y)
+unfolding sumBelow
+between z x y zero h k = omega arith
+between z x y (suc n) h k = go (leZ x (z +ℤ pos n)) refl (ltZ (z +ℤ pos n) y) refl _ (between z x y n h k)
+  where
+    go : (b : Bool) → leZ x (z +ℤ pos n) ≡ b → (c : Bool) → ltZ (z +ℤ pos n) y ≡ c → (s : ℕ) → s + min n (gap z x) ≡ min n (gap z y) → bit (b && c) + s + min (suc n) (gap z x) ≡ min (suc n) (gap z y)
+    go true d true e s ih = omega (order, add-up z (pos n), pos-up n)
+    go true d false e s ih = omega (order, add-up z (pos n), pos-up n)
+    go false d c e s ih = omega (order, add-up z (pos n), pos-up n)
+
+-- they are w, where x and x + w are not outside
+span : (z x w : ℤ) (n : ℕ) → ltZ w (pos 1) ≡ false → leZ z x ≡ true → leZ (x +ℤ w) (z +ℤ pos n) ≡ true → sumBelow n (λ i. bit (leZ x (z +ℤ pos i) && ltZ (z +ℤ pos i) (x +ℤ w))) ≡ natAbs w
+span z x (pos v) n d h k =
+    let rises : leZ x (x +ℤ pos v) ≡ true = omega (order, add-up x (pos v), pos-up v) in
+    omega (order, between z x (x +ℤ pos v) n h rises, add-up x (pos v), pos-up v, add-up z (pos n), pos-up n)
+span z x (negsuc v) n d h k = absurd (true≢false d)
+
+-- ---- Cells of a square
+
+-- a rectangle lies between two ends on both axes
+record Within (low high : ℤ) (r : Rect) : Type 0 where
+  x-low : leZ low (r .x) ≡ true
+  x-high : leZ (right r) high ≡ true
+  y-low : leZ low (r .y) ≡ true
+  y-high : leZ (top r) high ≡ true
+
+-- such a rectangle holds W · H cells of the square between the ends
+square-hold : (z : ℤ) (n : ℕ) (r : Rect) → flat r ≡ false → Within z (z +ℤ pos n) r → cellsFrom z n (λ a b. holds a b r) ≡ areaOf r
+unfolding cellsFrom holds flat areaOf
+square-hold z n r f h =
+    let wide = or-parts (ltZ (r .w) (pos 1)) (ltZ (r .h) (pos 1)) f in
+    below-pairs (λ i. leZ (r .x) (z +ℤ pos i) && ltZ (z +ℤ pos i) (right r)) (λ j. leZ (r .y) (z +ℤ pos j) && ltZ (z +ℤ pos j) (top r)) n n
+    ∙ ap₂ _*_ (span z (r .x) (r .w) n (wide .0) (h .x-low) (h .x-high)) (span z (r .y) (r .h) n (wide .1) (h .y-low) (h .y-high))
+
+-- the cells held, rectangle by rectangle, are the cells that pass
+square-sum : (z : ℤ) (n : ℕ) (rs : List Rect) (t : ℤ → ℤ → Bool) → ((a b : ℤ) → count (holds a b) rs ≡ bit (t a b)) → sum (λ r. cellsFrom z n (λ a b. holds a b r)) rs ≡ cellsFrom z n t
+unfolding cellsFrom
+square-sum z n rs t h = sym (below-sum n (λ i r. sumBelow n (λ j. bit (holds (z +ℤ pos i) (z +ℤ pos j) r))) rs) ∙ below-cong n (λ i. line (z +ℤ pos i))
+  where
+    line : (a : ℤ) → sum (λ r. sumBelow n (λ j. bit (holds a (z +ℤ pos j) r))) rs ≡ sumBelow n (λ j. bit (t a (z +ℤ pos j)))
+    line a = sym (below-sum n (λ j r. bit (holds a (z +ℤ pos j) r)) rs) ∙ below-cong n (λ j. sym (count-sum (holds a (z +ℤ pos j)) rs) ∙ h a (z +ℤ pos j))
+
+square-most : (z : ℤ) (n : ℕ) (t : ℤ → ℤ → Bool) → cellsFrom z n t ≤ n * n
+unfolding cellsFrom
+square-most z n t = below-most n n _ (λ i. line (z +ℤ pos i))
+  where
+    bit-most : (b : Bool) → bit b ≤ 1
+    bit-most true = omega arith
+    bit-most false = omega arith
+
+    line : (a : ℤ) → sumBelow n (λ j. bit (t a (z +ℤ pos j))) ≤ n
+    line a = omega (arith, below-most n 1 _ (λ j. bit-most (t a (z +ℤ pos j))))
+
+-- ---- Cells of the range
+
+range-ends : (z : ℤ) → inRange z ≡ true → (leZ lowEnd z ≡ true) × (leZ z highEnd ≡ true)
+unfolding inRange
+range-ends z e = and-parts (leZ lowEnd z) (leZ z highEnd) e
+
+range-within : (r : Rect) → rectInRange r ≡ true → Within lowEnd highEnd r
+unfolding rectInRange
+range-within r e =
+    let h = and-four (inRange (r .x)) (inRange (r .y)) (inRange (right r)) (inRange (top r)) e in
+    record { x-low = range-ends (r .x) (h .0) .0; x-high = range-ends (right r) (h .2) .1; y-low = range-ends (r .y) (h .1) .0; y-high = range-ends (top r) (h .3) .1 }
+
+-- a rectangle in range holds W · H cells
+pub cells-hold : (r : Rect) → flat r ≡ false → rectInRange r ≡ true → cells (λ a b. holds a b r) ≡ areaOf r
+unfolding cells
+cells-hold r f e = square-hold lowEnd 2_000_000_000 r f (range-within r e)
+
+-- the areas of rectangles that hold just the cells that pass a test, each once, add up to the number of those cells
+pub cells-areas : (rs : List Rect) (t : ℤ → ℤ → Bool) → ((r : Rect) → In r rs → flat r ≡ false) → ((r : Rect) → In r rs → rectInRange r ≡ true) → ((a b : ℤ) → count (holds a b) rs ≡ bit (t a b)) → sum areaOf rs ≡ cells t
+unfolding cells
+cells-areas rs t f e h = sum-cong areaOf _ rs (λ r m. sym (cells-hold r (f r m) (e r m))) ∙ square-sum lowEnd 2_000_000_000 rs t h
+
+-- no test passes more cells than there are in the range
+pub cells-most : (t : ℤ → ℤ → Bool) → cells t ≤ 4_000_000_000_000_000_000
+unfolding cells
+cells-most t = square-most lowEnd 2_000_000_000 t
+
+-- a rectangle in range holds no cell out of the range
+pub held-in-range : (a b : ℤ) (r : Rect) → rectInRange r ≡ true → holds a b r ≡ true → ((leZ lowEnd a ≡ true) × (ltZ a highEnd ≡ true)) × ((leZ lowEnd b ≡ true) × (ltZ b highEnd ≡ true))
+unfolding holds
+held-in-range a b r e h =
+    let w = range-within r e in
+    let k = and-four (leZ (r .x) a) (ltZ a (right r)) (leZ (r .y) b) (ltZ b (top r)) h in
+    omega order

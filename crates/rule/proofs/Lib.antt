@@ -7,3 +7,4 @@ pub mod Cover
 pub mod Rising
 pub mod Canon
 pub mod Area
+pub mod Cases

@@ -6,3 +6,4 @@ pub mod Points
 pub mod Alike
 pub mod Cells
 pub mod Grid
+pub mod Arrays

@@ -1,0 +1,29 @@
+-- Points and rectangles as arrays of numbers, and back.
+use mathlib.Core.Path.{_≡_, refl, ap}
+use Prim.Native.Nat.{ℕ, _*_}
+use native.Mathlib.Omega.{arith}
+use mathlib.Core.List.{List, [], _∷_}
+use lib.ListN.{length}
+use Rattle.plane.specs.declared.Point.{Point}
+use Rattle.plane.specs.declared.Rect.{Rect}
+use Rattle.plane.specs.Words.{pointsOf, flatPoints, rectsOf, flatRects}
+
+pub points-flat : (ps : List Point) → pointsOf (flatPoints ps) ≡ ps
+unfolding pointsOf flatPoints
+points-flat [] = refl
+points-flat (p ∷ ps) = ap (λ l. p ∷ l) (points-flat ps)
+
+pub length-flat-points : (ps : List Point) → length (flatPoints ps) ≡ 2 * length ps
+unfolding flatPoints
+length-flat-points [] = refl
+length-flat-points (p ∷ ps) = let h = length-flat-points ps in omega arith
+
+pub rects-flat : (rs : List Rect) → rectsOf (flatRects rs) ≡ rs
+unfolding rectsOf flatRects
+rects-flat [] = refl
+rects-flat (r ∷ rs) = ap (λ l. r ∷ l) (rects-flat rs)
+
+pub length-flat-rects : (rs : List Rect) → length (flatRects rs) ≡ 4 * length rs
+unfolding flatRects
+length-flat-rects [] = refl
+length-flat-rects (r ∷ rs) = let h = length-flat-rects rs in omega arith

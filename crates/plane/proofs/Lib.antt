@@ -4,6 +4,7 @@ pub mod Sums
 pub mod Parity
 pub mod Points
 pub mod Alike
+pub mod Rising
 pub mod Cells
 pub mod Grid
 pub mod Arrays

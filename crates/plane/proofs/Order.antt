@@ -129,6 +129,11 @@ add-up (pos a) (negsuc b) = omega (arith, sub-up a (suc b))
 add-up (negsuc a) (pos b) = omega (arith, sub-up b (suc a))
 add-up (negsuc a) (negsuc b) = omega arith
 
+-- a number that is at least 1 makes a sum greater
+pub add-more : (a b : ℤ) → ltZ b (pos 1) ≡ false → ltZ a (a +ℤ b) ≡ true
+unfolding up dn
+add-more a b e = omega (order, add-up a b)
+
 pub far-side : (a b : ℤ) → a +ℤ (b -ℤ a) ≡ b
 far-side a b = +ℤ-comm a (b -ℤ a) ∙ -ℤ-+ℤ-cancel b a
 

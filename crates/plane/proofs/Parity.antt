@@ -5,8 +5,8 @@ use native.Mathlib.Omega.{arith}
 use mathlib.Core.Bool.{Bool, true, false, not, _&&_, xor, false≢true, and-assoc, and-false}
 use mathlib.Core.List.{List, [], _∷_, _++_, List·Memᴰ as In, List·Memᴰ·head as head, List·Memᴰ·tail as tail}
 use Rattle.plane.specs.Lists.{bit, any, count, odd, sum}
-use Rattle.plane.proofs.Bools.{and-parts, xor-self, xor-false, false-xor, xor-assoc, xor-swap, isOdd, isOdd-bit}
-use Rattle.plane.proofs.Sums.{count-sum, any-in, count-in}
+use Rattle.plane.proofs.Bools.{iff, and-parts, xor-self, xor-false, false-xor, xor-assoc, xor-swap, isOdd, isOdd-bit}
+use Rattle.plane.proofs.Sums.{any-find, any-in, count-sum, count-in}
 
 module _ {A : Type 0} where
   pub odd-none-of : (f : A → Bool) → odd f [] ≡ false
@@ -67,6 +67,10 @@ module _ {A : Type 0} where
       let low = count-in f m h in
       let e : sum (λ a. bit (f a)) l ≡ 1 = omega (arith, count-sum f l) in
       odd-sum f l ∙ ap isOdd e
+
+  -- what passes at most once passes an odd number of times just if it passes
+  pub once-odd : (f : A → Bool) (l : List A) → count f l ≤ 1 → odd f l ≡ any f l
+  once-odd f l k = iff (odd f l) (any f l) (λ e. let r = odd-find f l e in any-in f (r .1) (r .2)) (λ e. let r = any-find f l e in odd-one f (r .1) (r .2) k)
 
   -- ---- Classes: the elements with one key. Where every counted class is even, the whole is even
 

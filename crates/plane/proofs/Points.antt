@@ -1,12 +1,15 @@
 -- Laws of points: when two are the same, and the order of y, then x.
-use mathlib.Core.Path.{_≡_, refl, sym, _∙_}
-use mathlib.Core.Bool.{Bool, true, false, _&&_, _||_, true≢false, false≢true}
+use mathlib.Core.Path.{_≡_, refl}
+use mathlib.Core.Bool.{Bool, true, false, _&&_, _||_, true≢false, false≢true, or-true}
+use mathlib.Core.List.{List, Memᴰ·cast, List·Memᴰ as In}
 use lib.IntN.{ℤ}
 use lib.Signed.{leZ, ltZ}
 use Rattle.plane.specs.declared.Point.{Point}
+use Rattle.plane.specs.Lists.{any}
 use Rattle.plane.specs.Words.{eqZ, same, before}
 use Rattle.plane.proofs.Order.{order, eqZ-is, eqZ-refl}
-use Rattle.plane.proofs.Bools.{and-parts, and-make}
+use Rattle.plane.proofs.Bools.{clash, by, and-parts, and-make}
+use Rattle.plane.proofs.Sums.{any-find}
 
 -- ---- The same point
 
@@ -19,6 +22,10 @@ same-is p q e =
 pub same-refl : (p : Point) → same p p ≡ true
 unfolding same
 same-refl p = and-make _ _ (eqZ-refl (p .x)) (eqZ-refl (p .y))
+
+-- a list that has a point the same as p has p
+pub same-in : (p : Point) (ps : List Point) → any (same p) ps ≡ true → In p ps
+same-in p ps e = let r = any-find (same p) ps e in Memᴰ·cast (same-is p (r .0) (r .2)) (r .1)
 
 -- ---- The order: q is k or comes after it
 
@@ -73,3 +80,20 @@ before-self k =
 pub before-above : (k q : Point) → ltZ (k .y) (q .y) ≡ true → before k q ≡ true
 unfolding before
 before-above k q h = rw h
+
+-- a point further left on a row comes before
+pub before-along : (x x′ y : ℤ) → ltZ x x′ ≡ true → before (record { x = x; y = y }) (record { x = x′; y = y }) ≡ true
+unfolding before
+before-along x x′ y h = rw (eqZ-refl y, h) (or-true (ltZ y y))
+
+-- of two points that are not the same, one comes before the other
+pub before-connected : (p q : Point) → before p q ≡ false → same p q ≡ false → before q p ≡ true
+before-connected p q e d = by (before q p) (λ f. clash (after-both p q (after-no q p f) (after-no p q e)) d)
+
+-- a point does not come before one that it is at or after
+before-after : (k q : Point) → before k q ≡ true → After k q → ⊥
+before-after k q e a = clash (rw (same-is k q (after-both k q (after-yes k q e) a)) at e) (before-self q)
+
+-- the order is transitive
+pub before-trans : (p q r : Point) → before p q ≡ true → before q r ≡ true → before p r ≡ true
+before-trans p q r e d = by (before p r) (λ f. before-after p q e (after-trans (after-no p r f) (after-yes q r d)))

@@ -3,12 +3,12 @@ use mathlib.Core.Path.{_≡_, refl, sym, ap, ap₂, _∙_}
 use Prim.Native.Nat.{ℕ, zero, suc, _+_, _-_, _*_, _≤_, _<_}
 use native.Mathlib.Omega.{arith}
 use native.Mathlib.Decide.{ℕ-discrete}
-use mathlib.Core.Bool.{Bool, true, false, cond, _||_, false≢true}
+use mathlib.Core.Bool.{Bool, true, false, cond, _&&_, _||_, false≢true}
 use mathlib.Core.List.{List, [], _∷_, _++_, List·Memᴰ as In, List·Memᴰ·head as head, List·Memᴰ·tail as tail}
 use lib.ListN.{length, getD, take, set, length-set}
 use lib.Seq.{getD-set-same, getD-set-other}
-use Rattle.plane.specs.Lists.{bit, any, count, sum}
-use Rattle.plane.proofs.Bools.{cond-le, or-right}
+use Rattle.plane.specs.Lists.{bit, any, count, sum, keep, only}
+use Rattle.plane.proofs.Bools.{cond-le, or-parts, or-right}
 
 module _ {A : Type 0} where
   -- ---- Sums
@@ -96,6 +96,16 @@ module _ {A : Type 0} where
   any-in f {l = b ∷ l} (head e) h = rw (← e, h)
   any-in f {l = b ∷ l} (tail m) h = or-right (f b) _ (any-in f m h)
 
+  -- of the elements that pass one test, some passes another
+  pub any-only : (f g : A → Bool) (l : List A) → any f (only g l) ≡ any (λ a. g a && f a) l
+  unfolding any only
+  any-only f g [] = refl
+  any-only f g (a ∷ l) = go (any-only f g l) (g a)
+    where
+      go : any f (only g l) ≡ any (λ b. g b && f b) l → (t : Bool) → any f (keep t a (only g l)) ≡ ((t && f a) || any (λ b. g b && f b) l)
+      go ih true = rw ih
+      go ih false = ih
+
   -- ---- How many pass
 
   pub count-sum : (f : A → Bool) (l : List A) → count f l ≡ sum (λ a. bit (f a)) l
@@ -118,6 +128,12 @@ module _ {A : Type 0} where
       go : (1 ≤ count f l → (b : A) × In b l × (f b ≡ true)) → (t : Bool) → f a ≡ t → 1 ≤ cond t (suc (count f l)) (count f l) → (b : A) × In b (a ∷ l) × (f b ≡ true)
       go ih true d h = (a, head refl, d)
       go ih false d h = let r = ih h in (r .0, tail (r .1), r .2)
+
+  -- where none passes, the count is 0
+  pub count-none : (f : A → Bool) (l : List A) → any f l ≡ false → count f l ≡ 0
+  unfolding any count
+  count-none f [] e = refl
+  count-none f (a ∷ l) e = let h = or-parts (f a) (any f l) e in rw (h .0) (count-none f l (h .1))
 
   pub count-mono : (f g : A → Bool) (l : List A) → ((a : A) → In a l → f a ≡ true → g a ≡ true) → count f l ≤ count g l
   unfolding count

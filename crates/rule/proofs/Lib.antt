@@ -8,3 +8,5 @@ pub mod Rising
 pub mod Canon
 pub mod Area
 pub mod Cases
+pub mod Backward
+pub mod RoundTrip

@@ -29,7 +29,7 @@ module _ {ps : List Point} {k l : Point} {m : ℤ} (c : Picked ps k l m) where
   sum-step = sum-four ps k l m (count-in (same k) (c .first-k .within) (same-refl k)) (count-in (same l) (c .first-l .within) (same-refl l)) (apart c)
 
   -- the number of points never grows
-  pub step-no-growth : length (toggleFour ps k l m) ≤ length ps
+  step-no-growth : length (toggleFour ps k l m) ≤ length ps
   step-no-growth = omega (arith, sum-length ps, sum-length (toggleFour ps k l m), sum-step (λ p. 1))
 
   -- a test that K, L and (xK, M), (xL, M) pass, and that every point passed, every point left passes
@@ -79,6 +79,24 @@ module _ {ps : List Point} {k l : Point} {m : ℤ} (c : Picked ps k l m) where
         pairs : (a b r : Bool) → xor b (xor a (xor b (xor a r))) ≡ r
         pairs a b r = rw (xor-left-comm a b (xor a r)) (xor-back b _ ∙ xor-back a r)
 
+-- ---- The step of an accepted array that is not empty
+
+module _ (p : Point) (qs : List Point) (acc : Accepted (p ∷ qs)) where
+  -- every step keeps rows and columns even, points distinct and all in range
+  pub step-keeps-accepted : Accepted (step (p ∷ qs) .left)
+  unfolding step taken
+  step-keeps-accepted = step-accepted (picks p qs acc) acc
+
+  -- the number of points never grows
+  pub step-never-grows : length (step (p ∷ qs) .left) ≤ length (p ∷ qs)
+  unfolding step taken
+  step-never-grows = step-no-growth (picks p qs acc)
+
+  -- the rectangle is one that backward accepts: W and H at least 1, all in range
+  pub step-rect : (flat (step (p ∷ qs) .rect) ≡ false) × (rectInRange (step (p ∷ qs) .rect) ≡ true)
+  unfolding step taken
+  step-rect = let c = picks p qs acc in (step-solid c, step-in-range c acc)
+
 -- ---- The steps as a relation: from the points, the rectangles made and the points left
 
 pub data Steps : List Point → List Rect → List Point → Type 0 where
@@ -98,14 +116,10 @@ steps (suc n) (p ∷ qs) acc =
     let c = picks p qs acc in
     more k l m acc c (steps n (toggleFour ps k l m) (step-accepted c acc))
 
--- every step keeps the points accepted, and their number never grows
+-- they keep the points accepted
 pub steps-accepted : {ps qs : List Point} {rs : List Rect} → Steps ps rs qs → Accepted ps → Accepted qs
 steps-accepted stay acc = acc
 steps-accepted (more k l m _ c s) acc = steps-accepted s (step-accepted c acc)
-
-pub steps-no-growth : {ps qs : List Point} {rs : List Rect} → Steps ps rs qs → length qs ≤ length ps
-steps-no-growth stay = omega arith
-steps-no-growth (more k l m _ c s) = let h = steps-no-growth s in let g = step-no-growth c in omega arith
 
 -- fuel that is not used up leaves no points
 pub spent : (n : ℕ) (ps : List Point) → (leftAfter step n ps ≡ []) ⊎ (length (run step n ps) ≡ n)

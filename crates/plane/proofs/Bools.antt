@@ -56,6 +56,11 @@ pub not-false : (b : Bool) → not b ≡ false → b ≡ true
 not-false true e = refl
 not-false false e = sym e
 
+-- what holds of both branches
+pub cond-case : {X : Type 0} (P : X → Type 0) (c : Bool) {x y : X} → (c ≡ true → P x) → (c ≡ false → P y) → P (cond c x y)
+cond-case P true f g = f refl
+cond-case P false f g = g refl
+
 -- ---- Exclusive or
 
 pub xor-self : (b : Bool) → xor b b ≡ false

@@ -3,7 +3,6 @@ use mathlib.Core.Path.{_≡_, refl}
 use mathlib.Core.Bool.{Bool, true, false, not, _&&_, xor, false≢true}
 use lib.IntN.{ℤ}
 use lib.Signed.{leZ, ltZ}
-use Rattle.plane.specs.declared.Point.{Point}
 use Rattle.plane.specs.Words.{under}
 use Rattle.plane.proofs.Order.{order}
 

@@ -8,3 +8,4 @@ pub mod Rising
 pub mod Cells
 pub mod Grid
 pub mod Arrays
+pub mod Places

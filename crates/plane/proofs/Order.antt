@@ -4,12 +4,12 @@ use mathlib.Core.Path.{_≡_, refl, sym, ap, _∙_, subst⁻¹}
 use mathlib.Core.Logic.{_≢_}
 use Prim.Native.Nat.{ℕ, zero, suc, _+_, _≤_, _<_}
 use native.Mathlib.Omega.{arith}
-use mathlib.Core.Bool.{Bool, true, false, not, cond, true≢false, false≢true}
+use mathlib.Core.Bool.{Bool, true, false, not, true≢false, false≢true}
 use lib.Dec.{T, ltb, eqb, leb→le, ltb→lt, nleb→lt, nltb→le, eqb→eq, eqb-refl}
 use lib.IntN.{ℤ, pos, negsuc, subℕ, predℤ, _+ℤ_, _-ℤ_, +ℤ-comm, -ℤ-+ℤ-cancel}
 use lib.Signed.{leZ, ltZ}
 use Rattle.plane.specs.Words.{eqZ}
-use Rattle.plane.proofs.Bools.{by, by-no}
+use Rattle.plane.proofs.Bools.{by, by-no, cond-case}
 
 pub yes-T : {b : Bool} → b ≡ true → T b
 yes-T e = subst⁻¹ T e tt
@@ -113,10 +113,6 @@ pub →neq : (a b : ℤ) → up a + dn b ≢ up b + dn a → eqZ a b ≡ false
 pub ruleset order = (arith, le→, nle→, lt→, nlt→, eq→, neq→, path→, →le, →nle, →lt, →nlt, →eq, →neq, same-ℤ)
 
 -- ---- sums: a fact for `omega`'s list, `omega (order, add-up a b)`
-
-cond-case : {X : Type 0} (P : X → Type 0) (c : Bool) {x y : X} → (c ≡ true → P x) → (c ≡ false → P y) → P (cond c x y)
-cond-case P true f g = f refl
-cond-case P false f g = g refl
 
 sub-up : (a b : ℕ) → up (subℕ a b) + b ≡ dn (subℕ a b) + a
 unfolding up dn

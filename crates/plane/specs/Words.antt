@@ -1,13 +1,13 @@
 -- The words of document 01: points, rectangles, the range, cells, rows and columns, and the order of points.
 use Prim.Native.Nat.{ℕ, _+_, _*_}
-use mathlib.Core.Bool.{Bool, true, false, not, cond, _&&_, _||_}
+use mathlib.Core.Bool.{Bool, true, false, cond, _&&_, _||_}
 use mathlib.Core.List.{List, [], _∷_}
 use lib.IntN.{ℤ, pos, negsuc, natAbs, _+ℤ_}
 use lib.Signed.{leZ, ltZ}
 use lib.Dec.{eqb}
 use Rattle.plane.specs.declared.Point.{Point}
 use Rattle.plane.specs.declared.Rect.{Rect}
-use Rattle.plane.specs.Lists.{bit, any, odd, sum, sumBelow}
+use Rattle.plane.specs.Lists.{bit, odd, sumBelow}
 
 -- ---- Numbers
 

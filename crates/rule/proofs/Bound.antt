@@ -1,7 +1,7 @@
 -- The number of steps. Each point weighs as much as there are different rows above it. A step takes two points of K's row away and adds
 -- at most two of the stop row, which is higher, so the weights' sum falls by two or more: the run ends, after at most (n/2)(r - 1) steps.
 use mathlib.Core.Path.{_≡_, refl, sym, ap, _∙_}
-use Prim.Native.Nat.{ℕ, zero, suc, _+_, _-_, _*_, _/_, _≤_, _<_}
+use Prim.Native.Nat.{ℕ, suc, _+_, _-_, _*_, _/_, _≤_, _<_}
 use native.Mathlib.Omega.{arith}
 use native.Mathlib.Nat.{mul-le-mul-left}
 use mathlib.Core.Bool.{Bool, true, false, not, _&&_, _||_, and-true}
@@ -12,7 +12,7 @@ use lib.IntN.{ℤ}
 use lib.Signed.{ltZ}
 use Rattle.plane.specs.declared.Point.{Point}
 use Rattle.plane.specs.declared.Rect.{Rect}
-use Rattle.plane.specs.Lists.{bit, any, count, odd, sum, keep}
+use Rattle.plane.specs.Lists.{bit, any, count, sum, keep}
 use Rattle.plane.specs.Words.{eqZ, onRow}
 use Rattle.plane.proofs.Order.{order, eqZ-is, eqZ-refl}
 use Rattle.plane.proofs.Bools.{even-half, isOdd}
@@ -21,7 +21,7 @@ use Rattle.plane.proofs.Parity.{odd-sum, odd-cong}
 use Rattle.rule.specs.Rule.{toggleFour, step, run, leftAfter, enough, ruleList, different, rowsOf, rowCount}
 use Rattle.rule.specs.Table.{Accepted}
 use Rattle.rule.proofs.Picks.{Picked, level, higher, picks}
-use Rattle.rule.proofs.Inside.{rows-even}
+use Rattle.rule.proofs.Inside.{even-by-rows}
 use Rattle.rule.proofs.Steps.{sum-step, step-all, Steps, stay, more, steps, steps-accepted, spent}
 
 -- ---- The different rows
@@ -146,7 +146,7 @@ rule-steps ps acc = rw (rule-ends ps acc) at (steps (enough ps) ps acc)
 -- even rows make an even number of points
 pub even-length : (ps : List Point) → Accepted ps → (h : ℕ) × (length ps ≡ h + h)
 unfolding isOdd
-even-length ps acc = even-half (length ps) (sym (ap isOdd (sum-length ps)) ∙ sym (odd-sum (λ p. true) ps) ∙ rows-even (λ p. true) (λ y. true) ps (λ q n e. odd-cong (λ p. onRow (q .y) p && true) (onRow (q .y)) ps (λ p i. and-true (onRow (q .y) p)) ∙ acc .rows (q .y)))
+even-length ps acc = even-half (length ps) (sym (ap isOdd (sum-length ps)) ∙ sym (odd-sum (λ p. true) ps) ∙ even-by-rows (λ p. true) (λ y. true) ps (λ q n e. odd-cong (λ p. onRow (q .y) p && true) (onRow (q .y)) ps (λ p i. and-true (onRow (q .y) p)) ∙ acc .rows (q .y)))
 
 pub rule-bound : (ps : List Point) → Accepted ps → length (ruleList ps) ≤ length ps / 2 * (rowCount ps - 1)
 unfolding rowCount

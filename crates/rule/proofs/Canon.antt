@@ -1,9 +1,8 @@
 -- Demand 3, second half: two accepted arrays have equal lists exactly when they mark the same cells, in any order of points.
 use mathlib.Core.Path.{_≡_, refl, sym, ap, _∙_, subst}
 use mathlib.Core.Logic.{_↔_}
-use Prim.Native.Nat.{ℕ}
 use native.Mathlib.Omega.{arith}
-use mathlib.Core.Bool.{Bool, true, false, _&&_, _||_}
+use mathlib.Core.Bool.{Bool, true, false, _||_}
 use mathlib.Core.List.{List, [], List·Memᴰ as In, List·Memᴰ·not-nil}
 use lib.IntN.{ℤ}
 use lib.Signed.{ltZ}
@@ -14,11 +13,11 @@ use Rattle.plane.specs.Words.{marks, holds}
 use Rattle.plane.proofs.Bools.{and-parts, and-make, or-right}
 use Rattle.plane.proofs.Sums.{any-find, any-in}
 use Rattle.plane.proofs.Alike.{Alike, alike-sym, alike-in, marks-alike}
-use Rattle.rule.specs.Rule.{rightOf, over, leftOf, stops, stopper, toggleFour, ruleList}
+use Rattle.rule.specs.Rule.{over, leftOf, stops, stopper, toggleFour, ruleList}
 use Rattle.rule.specs.Table.{Accepted}
 use Rattle.rule.proofs.Toggle.{odd-four}
 use Rattle.rule.proofs.Picks.{IsFirst, first-unique, Picked}
-use Rattle.rule.proofs.Steps.{step-accepted, Steps, stay, more}
+use Rattle.rule.proofs.Steps.{four-accepted, Steps, stay, more}
 use Rattle.rule.proofs.Bound.{rule-steps}
 use Rattle.rule.proofs.Cover.{rule-covers}
 
@@ -75,7 +74,7 @@ same-run (more {ps = ps} k l m _ c s) e (more {ps = qs} {qs = qs′} {rs = ss} k
     let eM : m ≡ m′ = same-m acc bcc h c c₂ in
     let s₁ : Steps (toggleFour qs k l m) ss qs′ = rw (← eK, ← eL, ← eM) at s′ in
     let d₁ : Picked qs k l m = rw (← eM) at c₂ in
-    let ih = same-run s e s₁ d (step-accepted c acc) (step-accepted d₁ bcc) (alike-four ps qs k l m h) in
+    let ih = same-run s e s₁ d (four-accepted c acc) (four-accepted d₁ bcc) (alike-four ps qs k l m h) in
     cc
 
 pub alike-list : (ps qs : List Point) → Accepted ps → Accepted qs → Alike ps qs → ruleList ps ≡ ruleList qs

@@ -1,6 +1,6 @@
 -- A step's rectangle against the marked cells: the step unmarks just the cells of its rectangle, and all of them were marked.
-use mathlib.Core.Path.{_≡_, refl, sym, _∙_, subst}
-use mathlib.Core.Bool.{Bool, true, false, not, _&&_, _||_, xor, true≢false, false≢true}
+use mathlib.Core.Path.{_≡_, refl, sym, _∙_}
+use mathlib.Core.Bool.{Bool, true, false, not, _&&_, xor, true≢false, false≢true}
 use mathlib.Core.List.{List, List·Memᴰ as In}
 use lib.IntN.{ℤ}
 use lib.Signed.{leZ, ltZ}
@@ -39,9 +39,9 @@ marks-four {ps} {k} {l} {m} c a b =
 -- ---- The cells of a step's rectangle were marked
 
 -- where every counted row is even, the whole is even
-pub rows-even : (g : Point → Bool) (r : ℤ → Bool) (ps : List Point) → ((q : Point) → In q ps → r (q .y) ≡ true → odd (λ p. onRow (q .y) p && g p) ps ≡ false) → odd (λ p. r (p .y) && g p) ps ≡ false
+pub even-by-rows : (g : Point → Bool) (r : ℤ → Bool) (ps : List Point) → ((q : Point) → In q ps → r (q .y) ≡ true → odd (λ p. onRow (q .y) p && g p) ps ≡ false) → odd (λ p. r (p .y) && g p) ps ≡ false
 unfolding onRow
-rows-even = classes-even (λ p. p .y) eqZ eqZ-is eqZ-refl
+even-by-rows = classes-even (λ p. p .y) eqZ eqZ-is eqZ-refl
 
 module _ {ps : List Point} {k l : Point} {m : ℤ} (acc : Accepted ps) (c : Picked ps k l m) (a b : ℤ)
     (left : leZ (k .x) a ≡ true) (right : ltZ a (l .x) ≡ true) (low : leZ (k .y) b ≡ true) (high : ltZ b m ≡ true) where
@@ -89,7 +89,7 @@ module _ {ps : List Point} {k l : Point} {m : ℤ} (acc : Accepted ps) (c : Pick
 
   rows-above : odd (λ p. not (onRow (k .y) p) && under a b p) ps ≡ false
   unfolding onRow under above-k
-  rows-above = odd-cong (λ p. not (onRow (k .y) p) && under a b p) (λ p. above-k (p .y) && leZ (p .x) a) ps (λ q n. go q (after-k c q n)) ∙ rows-even (λ p. leZ (p .x) a) above-k ps row-clear
+  rows-above = odd-cong (λ p. not (onRow (k .y) p) && under a b p) (λ p. above-k (p .y) && leZ (p .x) a) ps (λ q n. go q (after-k c q n)) ∙ even-by-rows (λ p. leZ (p .x) a) above-k ps row-clear
     where
       shape : (s t u v : Bool) → not s ≡ t → (not s && (u && v)) ≡ ((t && v) && u)
       shape true true u v e = absurd (false≢true e)

@@ -1,3 +1,5 @@
+pub mod Verdicts
+pub mod Refusals
 pub mod Toggle
 pub mod Picks
 pub mod Inside
@@ -7,6 +9,6 @@ pub mod Cover
 pub mod Rising
 pub mod Canon
 pub mod Area
-pub mod Cases
 pub mod Backward
 pub mod RoundTrip
+pub mod Cases

@@ -1,20 +1,20 @@
 -- K, L and M at an accepted list that is not empty: they exist, and are what document 01 says.
-use mathlib.Core.Path.{_≡_, refl, sym, ap, _∙_, subst}
+use mathlib.Core.Path.{_≡_, refl, sym, _∙_, subst}
 use Prim.Native.Nat.{_≤_}
-use mathlib.Core.Bool.{Bool, true, false, not, cond, _&&_, _||_, true≢false}
+use mathlib.Core.Bool.{Bool, true, false, not, cond, _&&_}
 use mathlib.Core.List.{List, [], _∷_, List·Memᴰ as In, List·Memᴰ·head as head, List·Memᴰ·tail as tail}
 use mathlib.Core.Option.{Option, none, some, Option·getD}
 use lib.IntN.{ℤ}
 use lib.Signed.{leZ, ltZ}
 use Rattle.plane.specs.declared.Point.{Point}
-use Rattle.plane.specs.Lists.{any, count, odd}
+use Rattle.plane.specs.Lists.{count, odd}
 use Rattle.plane.specs.Words.{origin, eqZ, same, onRow, inColumn, before}
 use Rattle.plane.proofs.Order.{order, eqZ-is, eqZ-refl}
 use Rattle.plane.proofs.Bools.{by, by-no, and-parts, and-make, not-true, clash, xor-same}
-use Rattle.plane.proofs.Sums.{any-find, any-in}
+use Rattle.plane.proofs.Sums.{any-in}
 use Rattle.plane.proofs.Parity.{odd-cong, odd-find, odd-split, odd-one}
 use Rattle.plane.proofs.Points.{same-is, same-refl, After, above, along, after-refl, after-trans, after-no, after-yes, after-both}
-use Rattle.rule.specs.Rule.{earlier, orFound, firstOf, pickK, pickL, pickM, rightOf, over, leftOf, stops, stopper}
+use Rattle.rule.specs.Rule.{orFound, firstOf, pickK, pickL, pickM, rightOf, over, stops, stopper}
 use Rattle.rule.specs.Table.{Accepted}
 
 -- ---- The first point that passes a test

@@ -1,6 +1,6 @@
 -- Both directions: forward and then backward gives the points in order, and two rectangle lists have equal forward lists exactly when
 -- the same cells lie in an odd number of rectangles of each.
-use mathlib.Core.Path.{_≡_, refl, sym, ap, _∙_}
+use mathlib.Core.Path.{_≡_, sym, _∙_}
 use mathlib.Core.Logic.{_↔_}
 use mathlib.Core.Bool.{Bool, false, xor}
 use mathlib.Core.List.{List, [], _∷_}

@@ -1,8 +1,8 @@
 -- One step of the rule at an accepted list, and a run of steps without a bound on their number.
-use mathlib.Core.Path.{_≡_, refl, sym, ap, _∙_}
+use mathlib.Core.Path.{_≡_, refl, ap, _∙_}
 use Prim.Native.Nat.{ℕ, zero, suc, _+_, _≤_}
 use native.Mathlib.Omega.{arith}
-use mathlib.Core.Bool.{Bool, true, false, not, _&&_, xor}
+use mathlib.Core.Bool.{Bool, true, false, not, xor}
 use mathlib.Core.Logic.{_⊎_, inl, inr}
 use mathlib.Core.List.{List, [], _∷_, List·Memᴰ as In}
 use lib.ListN.{length}
@@ -10,8 +10,8 @@ use lib.IntN.{ℤ, pos, _-ℤ_}
 use lib.Signed.{ltZ}
 use Rattle.plane.specs.declared.Point.{Point}
 use Rattle.plane.specs.declared.Rect.{Rect}
-use Rattle.plane.specs.Lists.{bit, sum, odd}
-use Rattle.plane.specs.Words.{eqZ, same, onRow, inColumn, before, inRange, pointInRange, rectInRange, flat}
+use Rattle.plane.specs.Lists.{bit, sum}
+use Rattle.plane.specs.Words.{eqZ, same, onRow, inColumn, inRange, pointInRange, rectInRange, flat}
 use Rattle.plane.proofs.Order.{order, add-up, far-side, pos-up}
 use Rattle.plane.proofs.Bools.{by, and-parts, and-make, xor-back, xor-left-comm}
 use Rattle.plane.proofs.Sums.{sum-in, sum-zero, sum-length, count-in}
@@ -67,9 +67,9 @@ module _ {ps : List Point} {k l : Point} {m : ℤ} (c : Picked ps k l m) where
     step-in-range = rw (far-side (k .x) (l .x), far-side (k .y) m, range-k .0, range-k .1, range-l .0, range-m)
 
     -- a step keeps rows and columns even, points distinct and all in range
-    pub step-accepted : Accepted (toggleFour ps k l m)
+    pub four-accepted : Accepted (toggleFour ps k l m)
     unfolding onRow inColumn pointInRange
-    step-accepted = record {
+    four-accepted = record {
       range = step-all pointInRange (acc .range) (and-make _ _ (range-k .0) range-m) (and-make _ _ (range-l .0) range-m);
       once = once-four ps k l m (acc .once);
       rows = λ y. odd-four (onRow y) ps k l m ∙ xor-back (eqZ m y) _ ∙ rw (level c) (xor-back (eqZ (k .y) y) _) ∙ acc .rows y;
@@ -85,7 +85,7 @@ module _ (p : Point) (qs : List Point) (acc : Accepted (p ∷ qs)) where
   -- every step keeps rows and columns even, points distinct and all in range
   pub step-keeps-accepted : Accepted (step (p ∷ qs) .left)
   unfolding step taken
-  step-keeps-accepted = step-accepted (picks p qs acc) acc
+  step-keeps-accepted = four-accepted (picks p qs acc) acc
 
   -- the number of points never grows
   pub step-never-grows : length (step (p ∷ qs) .left) ≤ length (p ∷ qs)
@@ -114,12 +114,12 @@ steps (suc n) (p ∷ qs) acc =
     let l : Point = pickL k ps in
     let m : ℤ = pickM k l ps in
     let c = picks p qs acc in
-    more k l m acc c (steps n (toggleFour ps k l m) (step-accepted c acc))
+    more k l m acc c (steps n (toggleFour ps k l m) (four-accepted c acc))
 
 -- they keep the points accepted
 pub steps-accepted : {ps qs : List Point} {rs : List Rect} → Steps ps rs qs → Accepted ps → Accepted qs
 steps-accepted stay acc = acc
-steps-accepted (more k l m _ c s) acc = steps-accepted s (step-accepted c acc)
+steps-accepted (more k l m _ c s) acc = steps-accepted s (four-accepted c acc)
 
 -- fuel that is not used up leaves no points
 pub spent : (n : ℕ) (ps : List Point) → (leftAfter step n ps ≡ []) ⊎ (length (run step n ps) ≡ n)

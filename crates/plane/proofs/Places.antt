@@ -1,0 +1,105 @@
+-- Tests at the places of a list, and what they say of its elements: every element passes, no point stands twice, and
+-- every line of points is even.
+use mathlib.Core.Path.{_≡_, refl, sym, subst}
+use mathlib.Core.Logic.{_↔_, Iff·trans}
+use Prim.Native.Nat.{ℕ, zero, suc, _+_, _≤_, _<_}
+use native.Mathlib.Omega.{arith}
+use mathlib.Core.Bool.{Bool, true, false, not, cond}
+use mathlib.Core.List.{List, [], _∷_, List·Memᴰ as In, List·Memᴰ·head as head, List·Memᴰ·tail as tail}
+use lib.ListN.{length, getD, take, drop, take-append-drop}
+use lib.Seq.{drop-cons}
+use lib.IntN.{ℤ}
+use Rattle.plane.specs.declared.Point.{Point}
+use Rattle.plane.specs.Lists.{bit, any, count, odd, sum}
+use Rattle.plane.specs.Words.{origin, same, onRow, inColumn}
+use Rattle.plane.proofs.Order.{eqZ-is}
+use Rattle.plane.proofs.Bools.{clash, by-no, or-parts, not-false}
+use Rattle.plane.proofs.Sums.{sum-append, any-find, count-sum, count-in, count-find}
+use Rattle.plane.proofs.Parity.{odd-find}
+use Rattle.plane.proofs.Points.{same-is, same-refl}
+
+-- ---- The element at a place
+
+module _ {A : Type 0} where
+  -- what stands at a place is an element
+  pub in-at : (l : List A) (i : ℕ) (d : A) → i < length l → In (getD l i d) l
+  in-at [] i d h = absurd (omega arith)
+  in-at (a ∷ l) zero d h = head refl
+  in-at (a ∷ l) (suc i) d h = tail (in-at l i d (omega arith))
+
+  -- an element stands at some place
+  pub at-in : {l : List A} {a : A} (d : A) → In a l → (i : ℕ) × (i < length l) × (getD l i d ≡ a)
+  at-in d (head e) = (0, omega arith, sym e)
+  at-in d (tail m) = let r = at-in d m in (suc (r .0), omega arith, r .2)
+
+  -- a fact of what stands at every place is a fact of every element
+  pub at-every-place : (P : A → Type 0) (l : List A) (d : A) → ((i : ℕ) → i < length l → P (getD l i d)) ↔ ((a : A) → In a l → P a)
+  at-every-place P l d = (λ h a m. let r = at-in d m in subst P (r .2) (h (r .0) (r .1)), λ h i k. h (getD l i d) (in-at l i d k))
+
+  -- every element passes a test, if what stands at every place does
+  pub all-pass : (f : A → Bool) (l : List A) (d : A) → ((i : ℕ) → i < length l → not (f (getD l i d)) ≡ false) ↔ ((a : A) → In a l → f a ≡ true)
+  all-pass f l d = Iff·trans (at-every-place (λ a. not (f a) ≡ false) l d) (λ h a m. not-false (f a) (h a m), λ h a m. rw (h a m))
+
+  -- how many pass before a place, and from there on
+  count-split : (f : A → Bool) (l : List A) (i : ℕ) → count f l ≡ count f (take i l) + count f (drop i l)
+  count-split f l i =
+      let w : A → ℕ = λ a. bit (f a) in
+      let s : sum w (take i l) + sum w (drop i l) ≡ sum w l = rw (← sum-append w (take i l) (drop i l), take-append-drop i l) in
+      omega (arith, count-sum f l, count-sum f (take i l), count-sum f (drop i l))
+
+  -- every line is even, if at every place the line of what stands there is; a line is the elements with one key
+  lines-even : {B : Type 0} (key : A → B) (f : B → A → Bool) → ((b : B) (a : A) → f b a ≡ true → key a ≡ b) → (l : List A) (d : A) → ((i : ℕ) → i < length l → odd (f (key (getD l i d))) l ≡ false) ↔ ((b : B) → odd (f b) l ≡ false)
+  lines-even key f is l d = (
+    λ h b. by-no (odd (f b) l) (λ e.
+        let r = odd-find (f b) l e in
+        let k : odd (f (key (r .0))) l ≡ false = at-every-place (λ a. odd (f (key a)) l ≡ false) l d .0 h (r .0) (r .1) in
+        clash e (subst (λ z. odd (f z) l ≡ false) (is b (r .0) (r .2)) k)),
+    λ h i k. h (key (getD l i d)),
+  )
+
+-- ---- Rows and columns
+
+-- every row is even exactly when at every place the row of the point there is
+pub rows-even : (ps : List Point) → ((i : ℕ) → i < length ps → odd (onRow (getD ps i origin .y)) ps ≡ false) ↔ ((y : ℤ) → odd (onRow y) ps ≡ false)
+unfolding onRow
+rows-even ps = lines-even (λ p. p .y) onRow (λ y p. eqZ-is (p .y) y) ps origin
+
+-- every column is even exactly when at every place the column of the point there is
+pub columns-even : (ps : List Point) → ((i : ℕ) → i < length ps → odd (inColumn (getD ps i origin .x)) ps ≡ false) ↔ ((x : ℤ) → odd (inColumn x) ps ≡ false)
+unfolding inColumn
+columns-even ps = lines-even (λ p. p .x) inColumn (λ x p. eqZ-is (p .x) x) ps origin
+
+-- ---- Repeats
+
+-- no point stands at an earlier place too, so each stands once
+once-of : (ps : List Point) → ((i : ℕ) → i < length ps → any (same (getD ps i origin)) (take i ps) ≡ false) → (q : Point) → count (same q) ps ≤ 1
+unfolding count any
+once-of [] h q = omega arith
+once-of (p ∷ ps) h q = go (once-of ps (λ i k. after i k .1) q) (same q p) refl
+  where
+    after : (i : ℕ) → i < length ps → (same (getD ps i origin) p ≡ false) × (any (same (getD ps i origin)) (take i ps) ≡ false)
+    after i k = or-parts (same (getD ps i origin) p) _ (h (suc i) (omega arith))
+
+    apart : (r : Point) → In r ps → same r p ≡ false
+    apart = at-every-place (λ r. same r p ≡ false) ps origin .0 (λ i k. after i k .0)
+
+    no-more : same q p ≡ true → ¬ (1 ≤ count (same q) ps)
+    no-more e k = let r = count-find (same q) ps k in clash (subst (λ z. same z p ≡ true) (same-is q (r .0) (r .2)) e) (apart (r .0) (r .1))
+
+    go : count (same q) ps ≤ 1 → (b : Bool) → same q p ≡ b → cond b (suc (count (same q) ps)) (count (same q) ps) ≤ 1
+    go ih true e = omega (arith, no-more e)
+    go ih false e = ih
+
+-- a point that stands once is at no earlier place too
+of-once : (ps : List Point) → ((q : Point) → count (same q) ps ≤ 1) → (i : ℕ) → i < length ps → any (same (getD ps i origin)) (take i ps) ≡ false
+of-once ps once i h =
+    let q : Point = getD ps i origin in
+    by-no (any (same q) (take i ps)) (λ e.
+    let r = any-find (same q) (take i ps) e in
+    let a : 1 ≤ count (same q) (take i ps) = count-in (same q) (r .1) (r .2) in
+    let b : 1 ≤ count (same q) (drop i ps) = count-in (same q) (rw (drop-cons ps i origin h) (head refl)) (same-refl q) in
+    omega (arith, count-split (same q) ps i, once q))
+
+-- no point equals an earlier one exactly when each stands at most once
+pub once-exactly : (ps : List Point) → ((i : ℕ) → i < length ps → any (same (getD ps i origin)) (take i ps) ≡ false) ↔ ((q : Point) → count (same q) ps ≤ 1)
+once-exactly ps = (once-of ps, of-once ps)

@@ -20,9 +20,6 @@ pub record Alike (ps qs : List Point) : Type 0 where
 pub alike-sym : {ps qs : List Point} → Alike ps qs → Alike qs ps
 alike-sym h = record { parity = λ f. sym (h .parity f) }
 
-pub alike-trans : {ps qs rs : List Point} → Alike ps qs → Alike qs rs → Alike ps rs
-alike-trans h g = record { parity = λ f. h .parity f ∙ g .parity f }
-
 -- a point of a list without repeats is a point of each list alike
 pub alike-in : {ps qs : List Point} → ((q : Point) → count (same q) ps ≤ 1) → Alike ps qs → (q : Point) → In q ps → In q qs
 alike-in {ps} {qs} once alike q n = let r = odd-find (same q) qs (sym (alike .parity (same q)) ∙ odd-one (same q) n (same-refl q) (once q)) in subst (λ p. In p qs) (sym (same-is q (r .0) (r .2))) (r .1)

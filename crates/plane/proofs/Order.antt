@@ -21,10 +21,6 @@ T-yes false t = absurd t
 pub no-T : {b : Bool} → b ≡ false → T (not b)
 no-T e = subst⁻¹ (λ (c : Bool). T (not c)) e tt
 
-pub T-no : (b : Bool) → T (not b) → b ≡ false
-T-no true t = absurd t
-T-no false t = refl
-
 pub up : ℤ → ℕ
 up (pos n) = n
 up (negsuc n) = 0

@@ -21,7 +21,6 @@ module _ {A : Type 0} where
 
   -- whether an odd number of elements pass a test
   unfoldable pub odd : (A → Bool) → List A → Bool
-  unfolding xor
   odd f [] = false
   odd f (a ∷ l) = xor (f a) (odd f l)
 

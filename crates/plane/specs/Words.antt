@@ -48,50 +48,41 @@ flatPoints (p ∷ ps) = p .x ∷ p .y ∷ flatPoints ps
 
 -- both coordinates are in range
 unfoldable pub pointInRange : Point → Bool
-unfolding inRange
 pointInRange p = inRange (p .x) && inRange (p .y)
 
 -- two points are the same
 unfoldable pub same : Point → Point → Bool
-unfolding eqZ
 same p q = eqZ (p .x) (q .x) && eqZ (p .y) (q .y)
 
 -- a point is of row y
 unfoldable pub onRow : ℤ → Point → Bool
-unfolding eqZ
 onRow y p = eqZ (p .y) y
 
 -- a point is of column x
 unfoldable pub inColumn : ℤ → Point → Bool
-unfolding eqZ
 inColumn x p = eqZ (p .x) x
 
 -- p comes before q in the order of y, then x
 unfoldable pub before : Point → Point → Bool
-unfolding eqZ
 before p q = ltZ (p .y) (q .y) || (eqZ (p .y) (q .y) && ltZ (p .x) (q .x))
 
 -- points after p stand in strictly rising order, each once
 unfoldable pub risingAfter : Point → List Point → Bool
-unfolding before
 risingAfter p [] = true
 risingAfter p (q ∷ qs) = before p q && risingAfter q qs
 
 -- points stand in strictly rising order of y, then x
 unfoldable pub rising : List Point → Bool
-unfolding risingAfter
 rising [] = true
 rising (p ∷ ps) = risingAfter p ps
 
 -- a point put in its place of a rising list; there already, the list stays
 unfoldable pub insert : Point → List Point → List Point
-unfolding before same
 insert p [] = p ∷ []
 insert p (q ∷ qs) = cond (before p q) (p ∷ q ∷ qs) (cond (same p q) (q ∷ qs) (q ∷ insert p qs))
 
 -- points in order of y, then x, each once
 unfoldable pub inOrder : List Point → List Point
-unfolding insert
 inOrder [] = []
 inOrder (p ∷ ps) = insert p (inOrder ps)
 
@@ -119,7 +110,6 @@ top r = r .y +ℤ r .h
 
 -- X, Y, X + W and Y + H are in range
 unfoldable pub rectInRange : Rect → Bool
-unfolding inRange
 rectInRange r = (inRange (r .x) && inRange (r .y)) && (inRange (right r) && inRange (top r))
 
 -- W or H is below 1
@@ -153,12 +143,10 @@ under a b p = leZ (p .x) a && leZ (p .y) b
 
 -- points mark the cell: an odd number of them have x ≤ a and y ≤ b
 unfoldable pub marks : List Point → ℤ → ℤ → Bool
-unfolding odd under
 marks ps a b = odd (under a b) ps
 
 -- how many cells of a square of n by n cells with lower left corner (z, z) pass a test
 unfoldable pub cellsFrom : ℤ → ℕ → (ℤ → ℤ → Bool) → ℕ
-unfolding sumBelow
 cellsFrom z n t = sumBelow n (λ i. sumBelow n (λ j. bit (t (z +ℤ pos i) (z +ℤ pos j))))
 
 -- how many cells of the range pass a test

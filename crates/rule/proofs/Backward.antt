@@ -7,7 +7,7 @@ use lib.Signed.{ltZ}
 use Rattle.plane.specs.declared.Point.{Point}
 use Rattle.plane.specs.declared.Rect.{Rect}
 use Rattle.plane.specs.Lists.{any, odd, only}
-use Rattle.plane.specs.Words.{eqZ, inRange, lowerLeft, pointInRange, same, onRow, inColumn, rising, right, top, rectInRange, flat, cornersOf, holds, under, marks}
+use Rattle.plane.specs.Words.{eqZ, inRange, lowerLeft, pointInRange, same, onRow, inColumn, risingAfter, rising, right, top, rectInRange, flat, cornersOf, holds, under, marks}
 use Rattle.plane.proofs.Order.{order, add-more}
 use Rattle.plane.proofs.Bools.{iff, and-parts, and-make, or-parts, xor-back, xor-self, xor-false, xor-assoc}
 use Rattle.plane.proofs.Sums.{any-find, any-in, any-only}
@@ -69,7 +69,7 @@ solid-sides r e = let h = or-parts (ltZ (r .w) _) (ltZ (r .h) _) e in (add-more 
 
 -- and its corners in rising order
 corners-rising : (r : Rect) → flat r ≡ false → rising (cornersOf r) ≡ true
-unfolding rising cornersOf
+unfolding rising risingAfter cornersOf
 corners-rising r e =
     let h = solid-sides r e in
     rw (before-along (r .x) (right r) (r .y) (h .0), before-above (record { x = right r; y = r .y }) (record { x = r .x; y = top r }) (h .1), before-along (r .x) (right r) (top r) (h .0))
@@ -93,10 +93,6 @@ corners-parity rs solid p = odd-corners (same p) rs ∙ odd-cong _ (isCorner p) 
 -- the answer has the parity of the corners, for every test
 pub back-alike : (rs : List Rect) → AcceptedRects rs → Alike (backList rs) (corners rs)
 back-alike rs acc = points-alike (backList rs) (corners rs) (λ p. once-odd (same p) (backList rs) (rising-once (backList rs) (back-rising rs) p) ∙ back-points rs p ∙ sym (corners-parity rs (acc .solid) p))
-
--- rectangles whose corners have the same parities have the same answer
-pub back-unchanged-by-parity : (rs ss : List Rect) → AcceptedRects rs → AcceptedRects ss → Alike (corners rs) (corners ss) → backList rs ≡ backList ss
-back-unchanged-by-parity rs ss acc bcc h = back-only ss (backList rs) (back-rising rs) (λ p. back-points rs p ∙ sym (corners-parity rs (acc .solid) p) ∙ h .parity (same p) ∙ corners-parity ss (bcc .solid) p)
 
 -- ---- The cells that the answer marks
 

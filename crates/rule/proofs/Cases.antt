@@ -1,13 +1,15 @@
 -- Cases A to L, and the paper's stop row on B: the definitions give what document 01 says, line for line, as the checker computes.
 use mathlib.Core.Path.{_≡_, refl}
+use mathlib.Core.Bool.{xor}
 use mathlib.Core.List.{map}
-use Rattle.plane.specs.Lists.{any, odd, sum}
-use Rattle.plane.specs.Words.{same, onRow, inColumn, pointInRange, rectInRange, flat, pointsOf, rectsOf, flatPoints, flatRects, areaOf, edgeOf}
-use Rattle.rule.specs.Rule.{ruleList}
-use Rattle.rule.specs.Back.{backList}
-use Rattle.rule.specs.Table.{forwardRows, backwardRows, stepRows}
-use Rattle.rule.specs.Cases.{gives, cases}
+use Rattle.plane.specs.Lists.{any, odd, only, sum}
+use Rattle.plane.specs.Words.{eqZ, inRange, pointsOf, flatPoints, pointInRange, same, onRow, inColumn, before, insert, inOrder, rectsOf, flatRects, rectInRange, flat, cornersOf, areaOf, edgeOf}
+use Rattle.rule.specs.Rule.{firstOf, pickK, rightOf, pickL, over, leftOf, stops, stopper, pickM, rectOf, placeOf, remove, add, toggle, toggleFour, taken, step, run, ruleList}
+use Rattle.rule.specs.Back.{isCorner, corners, oddCorner, backList}
+use Rattle.rule.specs.Table.{numberOf, pointRows, forwardRows, backwardRows, stepRows, firstFrom, placeGiven, verdict}
+use Rattle.rule.specs.Answers.{workOf, forwardAnswer, forwardOut, forwardWork, backwardAnswer, backwardOut, stepAnswer, stepWork}
+use Rattle.rule.specs.Cases.{paperM, paperStep, paperList, gives, cases}
 
 pub cases-hold : map (λ line. gives (line .asked)) cases ≡ map (λ line. line .says) cases
-unfolding gives cases any odd sum same onRow inColumn pointInRange rectInRange flat pointsOf rectsOf flatPoints flatRects areaOf edgeOf ruleList backList forwardRows backwardRows stepRows
+unfolding xor any odd only sum eqZ inRange pointsOf flatPoints pointInRange same onRow inColumn before insert inOrder rectsOf flatRects rectInRange flat cornersOf areaOf edgeOf firstOf pickK rightOf pickL over leftOf stops stopper pickM rectOf placeOf remove add toggle toggleFour taken step run ruleList isCorner corners oddCorner backList numberOf pointRows forwardRows backwardRows stepRows firstFrom placeGiven verdict workOf forwardAnswer forwardOut forwardWork backwardAnswer backwardOut stepAnswer stepWork paperM paperStep paperList gives cases
 cases-hold = refl

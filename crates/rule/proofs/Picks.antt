@@ -110,16 +110,10 @@ module _ {ps : List Point} {k l : Point} {m : ℤ} (c : Picked ps k l m) where
       go (above g) = let d = level in absurd (omega order)
       go (along d g) = g
 
-  m-passes : (ltZ (k .y) (c .on-m .y) ≡ true) × (stops ps (k .x) (l .x) (c .on-m .y) ≡ true)
-  unfolding stopper
-  m-passes = and-parts (ltZ (k .y) (c .on-m .y)) (stops ps (k .x) (l .x) (c .on-m .y)) (c .first-m .passes)
-
-  -- M is above K's row, and stops
+  -- M is above K's row
   pub higher : ltZ (k .y) m ≡ true
-  higher = rw (c .row-m) at (m-passes .0)
-
-  pub stop-m : stops ps (k .x) (l .x) m ≡ true
-  stop-m = rw (c .row-m) at (m-passes .1)
+  unfolding stopper
+  higher = rw (c .row-m) at (and-parts (ltZ (k .y) (c .on-m .y)) (stops ps (k .x) (l .x) (c .on-m .y)) (c .first-m .passes) .0)
 
   -- no row of a point between K's and M stops
   pub clear : (q : Point) → In q ps → ltZ (k .y) (q .y) ≡ true → ltZ (q .y) m ≡ true → stops ps (k .x) (l .x) (q .y) ≡ false

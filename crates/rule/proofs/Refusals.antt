@@ -24,7 +24,7 @@ use Rattle.rule.specs.Answers.{forwardSays, forwardAnswer, backwardSays,
 
 -- forward: 1, 2, 3, 4, 5, 6, 7, 8
 pub forward-order : (a : List ℤ) (work out : ℕ) → map numberOf (forwardRows a work out) ≡ 1 ∷ 2 ∷ 3 ∷ 4 ∷ 5 ∷ 6 ∷ 7 ∷ 8 ∷ []
-unfolding forwardRows numberOf
+unfolding forwardRows pointRows numberOf
 forward-order a work out = refl
 
 -- backward: 1, 2, 9, 4, 8
@@ -34,13 +34,13 @@ backward-order a out = refl
 
 -- a step: 2, 3, 10, 4, 5, 6, 7
 pub step-order : (work : List ℤ) (n : ℕ) → map numberOf (stepRows work n) ≡ 2 ∷ 3 ∷ 10 ∷ 4 ∷ 5 ∷ 6 ∷ 7 ∷ []
-unfolding stepRows numberOf
+unfolding stepRows pointRows numberOf
 step-order work n = refl
 
 -- ---- Answers
 
 forward-numbers : (a : List ℤ) (work out : ℕ) → Numbers (λ k. (1 ≤ k) × (k ≤ 8)) (forwardRows a work out)
-unfolding forwardRows numberOf
+unfolding forwardRows pointRows numberOf
 forward-numbers a work out = omega arith
 
 backward-numbers : (a : List ℤ) (out : ℕ) → Numbers (λ k. (1 ≤ k) × (k ≤ 9)) (backwardRows a out)
@@ -48,7 +48,7 @@ unfolding backwardRows numberOf
 backward-numbers a out = omega arith
 
 step-numbers : (work : List ℤ) (n : ℕ) → Numbers (λ k. (1 ≤ k) × (k ≤ 10)) (stepRows work n)
-unfolding stepRows numberOf
+unfolding stepRows pointRows numberOf
 step-numbers work n = omega arith
 
 forward-says : (a : List ℤ) (work out : ℕ) → (forwardAnswer a work out .answer ≡ numberIn (verdict (forwardRows a work out))) × (forwardAnswer a work out .place ≡ placeIn (verdict (forwardRows a work out)))
@@ -200,7 +200,7 @@ step-accepted work n = Iff·trans (accepted-clear (stepRows work n)) (go, back)
 -- forward lacks room, at p, exactly when p is the length of the list, the output has room for fewer, and with room for p
 -- it would accept
 pub forward-lacks-room : (a : List ℤ) (work out p : ℕ) → (verdict (forwardRows a work out) ≡ refused 8 p) ↔ (ForwardAccepted a work (4 * p) × (p ≡ length (ruleList (pointsOf a))) × (out / 4 < p))
-unfolding forwardRows numberOf
+unfolding forwardRows pointRows numberOf
 forward-lacks-room a work out p = lacks-room (LENGTH (length a) 2 ∷ MANY 4096 (length a / 2) ∷ WORK work (length a / 2) ∷ pointRows (pointsOf a)) 8 _ (out / 4) (4 * p / 4) p (omega arith) (omega arith) (forward-accepted a work (4 * p))
 
 -- backward lacks room, at p, exactly when p is the count of points, the output has room for fewer, and with room for p it

@@ -40,7 +40,7 @@ data Placed (r : Row) : Option ℕ → Type 0 where
   nowhere : Clear r → Placed r none
 
 row-placed : (r : Row) → Placed r (placeGiven r)
-unfolding placeGiven
+unfolding placeGiven firstFrom
 row-placed (whole k true) = at (by-whole refl)
 row-placed (whole k false) = nowhere refl
 row-placed (each k n t) = from 0 n (omega arith) (λ j h. absurd (omega arith))

@@ -26,7 +26,6 @@ written (refused k p) result out = out
 
 -- a working array given with n points that now holds other points: zeros after them, and past 2n unchanged
 unfoldable pub workOf : ℕ → List Point → List ℤ → List ℤ
-unfolding flatPoints
 workOf n ps work = flatPoints ps ++ (replicate (2 * (n - length ps)) (pos 0) ++ drop (2 * n) work)
 
 -- ---- Forward, of an array, the working array and the output (or their lengths)
@@ -37,21 +36,17 @@ forwardSays accepted rs = record { answer = 0; place = 0; count = length rs; are
 forwardSays (refused k p) rs = record { answer = k; place = p; count = 0; area = 0; edge = 0 }
 
 unfoldable pub forwardAnswer : List ℤ → ℕ → ℕ → ForwardAnswer
-unfolding verdict forwardRows ruleList pointsOf sum areaOf edgeOf
 forwardAnswer a work out = forwardSays (verdict (forwardRows a work out)) (ruleList (pointsOf a))
 
 unfoldable pub forwardOut : List ℤ → ℕ → List ℤ → List ℤ
-unfolding verdict forwardRows ruleList pointsOf flatRects
 forwardOut a work out = written (verdict (forwardRows a work (length out))) (flatRects (ruleList (pointsOf a))) out
 
 -- with 0 and 8 the first 2n numbers are 0; with any other refusal untouched
 abbrev pub drained : Verdict → ℕ → List ℤ → List ℤ
-unfolding workOf
 drained accepted n work = workOf n [] work
 drained (refused k p) n work = cond (eqb k 8) (workOf n [] work) work
 
 unfoldable pub forwardWork : List ℤ → List ℤ → ℕ → List ℤ
-unfolding verdict forwardRows workOf
 forwardWork a work out = drained (verdict (forwardRows a (length work) out)) (length a / 2) work
 
 -- ---- Backward, of an array and the output (or its length)
@@ -62,11 +57,9 @@ backwardSays accepted ps = record { answer = 0; place = 0; count = length ps }
 backwardSays (refused k p) ps = record { answer = k; place = p; count = 0 }
 
 unfoldable pub backwardAnswer : List ℤ → ℕ → BackwardAnswer
-unfolding verdict backwardRows backList rectsOf
 backwardAnswer a out = backwardSays (verdict (backwardRows a out)) (backList (rectsOf a))
 
 unfoldable pub backwardOut : List ℤ → List ℤ → List ℤ
-unfolding verdict backwardRows backList rectsOf flatPoints
 backwardOut a out = written (verdict (backwardRows a (length out))) (flatPoints (backList (rectsOf a))) out
 
 -- ---- A step, of a working array and a count of points
@@ -77,17 +70,14 @@ stepSays accepted t = Rectangle (t .rect) (length (t .left))
 stepSays (refused k p) t = Refused k p
 
 unfoldable pub stepAnswer : List ℤ → ℕ → StepAnswer
-unfolding verdict stepRows step pointsOf
 stepAnswer work n = stepSays (verdict (stepRows work n)) (step (take n (pointsOf work)))
 
 -- the points left and zeros up to twice the count given; on a refusal unchanged
 abbrev pub stepLeaves : Verdict → Taken → ℕ → List ℤ → List ℤ
-unfolding workOf
 stepLeaves accepted t n work = workOf n (t .left) work
 stepLeaves (refused k p) t n work = work
 
 unfoldable pub stepWork : List ℤ → ℕ → List ℤ
-unfolding verdict stepRows step pointsOf workOf
 stepWork work n = stepLeaves (verdict (stepRows work n)) (step (take n (pointsOf work))) n work
 
 -- ---- Document 01's number, place and values for each case of a step's answer

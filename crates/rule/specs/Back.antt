@@ -8,21 +8,17 @@ use Rattle.plane.specs.Words.{same, cornersOf, inOrder}
 
 -- p is a corner of the rectangle
 unfoldable pub isCorner : Point → Rect → Bool
-unfolding any same cornersOf
 isCorner p r = any (same p) (cornersOf r)
 
 -- all corners of the rectangles
 unfoldable pub corners : List Rect → List Point
-unfolding cornersOf
 corners [] = []
 corners (r ∷ rs) = cornersOf r ++ corners rs
 
 -- p is a corner of an odd number of the rectangles
 unfoldable pub oddCorner : List Rect → Point → Bool
-unfolding odd isCorner
 oddCorner rs p = odd (isCorner p) rs
 
 -- every such point, once each, in order of y, then x
 unfoldable pub backList : List Rect → List Point
-unfolding inOrder only oddCorner corners
 backList rs = inOrder (only (oddCorner rs) (corners rs))

@@ -37,23 +37,19 @@ zeros n = replicate n (pos 0)
 
 -- the paper's stop row: only a point with xK ≤ x < xL stops
 unfoldable pub paperM : Point → Point → List Point → ℤ
-unfolding firstOf any over
 paperM k l ps = Option·getD (firstOf (λ p. ltZ (k .y) (p .y) && any (over (k .x) (l .x) (p .y)) ps) ps) k .y
 
 unfoldable pub paperStep : List Point → Taken
-unfolding pickK pickL paperM taken
 paperStep ps =
     let k : Point = pickK ps in
     let l : Point = pickL k ps in
     taken k l (paperM k l ps) ps
 
 unfoldable pub paperList : List ℤ → List Rect
-unfolding pointsOf run paperStep
 paperList a = run paperStep (enough (pointsOf a)) (pointsOf a)
 
 -- what the definitions answer
 unfoldable pub gives : Asked → Said
-unfolding forwardAnswer forwardOut forwardWork backwardAnswer backwardOut stepAnswer stepWork paperList flatRects sum areaOf
 gives (forward a room) =
     let r = forwardAnswer a (length a) (4 * room) in
     record {

@@ -15,7 +15,6 @@ use Rattle.plane.specs.Words.{origin, eqZ, same, onRow, before}
 
 -- the earlier of a point and what was found, in the order of y, then x
 abbrev pub earlier : Point → Option Point → Point
-unfolding before
 earlier p none = p
 earlier p (some q) = cond (before q p) q p
 
@@ -26,48 +25,39 @@ orFound false p o = o
 
 -- the first point, in the order of y, then x, of those that pass a test
 unfoldable pub firstOf : (Point → Bool) → List Point → Option Point
-unfolding before
 firstOf f [] = none
 firstOf f (p ∷ ps) = orFound (f p) p (firstOf f ps)
 
 -- K is the leftmost point of the lowest row
 unfoldable pub pickK : List Point → Point
-unfolding firstOf
 pickK ps = Option·getD (firstOf (λ p. true) ps) origin
 
 -- right of K on K's row
 unfoldable pub rightOf : Point → Point → Bool
-unfolding onRow
 rightOf k p = onRow (k .y) p && ltZ (k .x) (p .x)
 
 -- L is the next leftmost on that row
 unfoldable pub pickL : Point → List Point → Point
-unfolding firstOf rightOf
 pickL k ps = Option·getD (firstOf (rightOf k) ps) k
 
 -- on row y, with xK ≤ x < xL
 unfoldable pub over : ℤ → ℤ → ℤ → Point → Bool
-unfolding onRow
 over xk xl y p = onRow y p && (leZ xk (p .x) && ltZ (p .x) xl)
 
 -- on row y, with x < xK
 unfoldable pub leftOf : ℤ → ℤ → Point → Bool
-unfolding onRow
 leftOf xk y p = onRow y p && ltZ (p .x) xk
 
 -- row y stops a rectangle between xK and xL: it has a point with xK ≤ x < xL, or an odd number of points with x < xK
 unfoldable pub stops : List Point → ℤ → ℤ → ℤ → Bool
-unfolding any odd over leftOf
 stops ps xk xl y = any (over xk xl y) ps || odd (leftOf xk y) ps
 
 -- above K, on a row that stops the rectangle between K and L
 unfoldable pub stopper : Point → Point → List Point → Point → Bool
-unfolding stops
 stopper k l ps p = ltZ (k .y) (p .y) && stops ps (k .x) (l .x) (p .y)
 
 -- M is the lowest row above K's that stops the rectangle
 unfoldable pub pickM : Point → Point → List Point → ℤ
-unfolding firstOf stopper
 pickM k l ps = Option·getD (firstOf (stopper k l ps) ps) k .y
 
 -- ---- The rectangle and the toggles
@@ -84,7 +74,6 @@ further false (some i) = some (suc i)
 
 -- the place where a point stands, if it does
 unfoldable pub placeOf : Point → List Point → Option ℕ
-unfolding same
 placeOf p [] = none
 placeOf p (q ∷ qs) = further (same p q) (placeOf p qs)
 
@@ -102,12 +91,10 @@ toggleAt none ps p = add ps p
 toggleAt (some i) ps p = remove ps i
 
 unfoldable pub toggle : List Point → Point → List Point
-unfolding placeOf add remove
 toggle ps p = toggleAt (placeOf p ps) ps p
 
 -- toggle four points in this order: K, L, (xK, M), (xL, M)
 unfoldable pub toggleFour : List Point → Point → Point → ℤ → List Point
-unfolding toggle
 toggleFour ps k l m = toggle (toggle (toggle (toggle ps k) l) (record { x = k .x; y = m })) (record { x = l .x; y = m })
 
 -- ---- A step and the list
@@ -119,12 +106,10 @@ pub record Taken : Type 0 where
 
 -- the rectangle between K, L and M, with its four toggles
 unfoldable pub taken : Point → Point → ℤ → List Point → Taken
-unfolding rectOf toggleFour
 taken k l m ps = record { rect = rectOf k l m; left = toggleFour ps k l m }
 
 -- one step
 unfoldable pub step : List Point → Taken
-unfolding pickK pickL pickM taken
 step ps =
     let k : Point = pickK ps in
     let l : Point = pickL k ps in
@@ -148,14 +133,12 @@ enough ps = length ps * length ps
 
 -- the list: the rectangles of the steps until no points remain
 unfoldable pub ruleList : List Point → List Rect
-unfolding run step
 ruleList ps = run step (enough ps) ps
 
 -- ---- How many rows
 
 -- the numbers of a list, each once
 unfoldable pub different : List ℤ → List ℤ
-unfolding any eqZ
 different [] = []
 different (z ∷ zs) = keep (not (any (eqZ z) zs)) z (different zs)
 
@@ -166,5 +149,4 @@ rowsOf (p ∷ ps) = p .y ∷ rowsOf ps
 
 -- the number of different rows
 unfoldable pub rowCount : List Point → ℕ
-unfolding different rowsOf
 rowCount ps = length (different (rowsOf ps))

@@ -103,7 +103,6 @@ pointRows ps = RANGE ps ∷ REPEATED ps ∷ ROW ps ∷ COLUMN ps ∷ []
 
 -- forward: 1, 2, 3, 4, 5, 6, 7, 8, of an array, the working array's length and the output's
 unfoldable pub forwardRows : List ℤ → ℕ → ℕ → List Row
-unfolding pointRows
 forwardRows a work out =
     LENGTH (length a) 2 ∷ MANY 4096 (length a / 2) ∷ WORK work (length a / 2) ∷ (pointRows (pointsOf a) ++ (ROOM (length (ruleList (pointsOf a))) (out / 4) ∷ []))
 
@@ -114,7 +113,6 @@ backwardRows a out =
 
 -- a step: 2, 3, 10, 4, 5, 6, 7, of a working array and a count of points
 unfoldable pub stepRows : List ℤ → ℕ → List Row
-unfolding pointRows
 stepRows work n = MANY 4096 n ∷ WORK (length work) n ∷ DRAINED n ∷ pointRows (take n (pointsOf work))
 
 -- ---- The check
@@ -126,7 +124,6 @@ firstFrom i (suc n) t = cond (t i) (some i) (firstFrom (suc i) n t)
 
 -- where a row is given, if it is
 unfoldable pub placeGiven : Row → Option ℕ
-unfolding firstFrom
 placeGiven (whole k t) = cond t (some 0) none
 placeGiven (each k n t) = firstFrom 0 n t
 placeGiven (needs k n r) = cond (ltb r n) (some n) none
@@ -143,7 +140,6 @@ orLater k (some p) rest = refused k p
 
 -- the rows in order, each over the whole input before the next
 unfoldable pub verdict : List Row → Verdict
-unfolding placeGiven numberOf
 verdict [] = accepted
 verdict (r ∷ rows) = orLater (numberOf r) (placeGiven r) (verdict rows)
 

@@ -7,7 +7,7 @@ use native.Mathlib.Nat.{mul-le-mul-left}
 use mathlib.Core.Bool.{Bool, true, false, not, _&&_, _||_, and-true}
 use mathlib.Core.Logic.{_⊎_, inl, inr}
 use mathlib.Core.List.{List, [], _∷_, List·Memᴰ as In, List·Memᴰ·head as head, List·Memᴰ·tail as tail}
-use lib.ListN.{length}
+use lib.ListN.{length, length-map}
 use lib.IntN.{ℤ}
 use lib.Signed.{ltZ}
 use Rattle.plane.specs.declared.Point.{Point}
@@ -53,13 +53,7 @@ different-few (z ∷ zs) = go (any (eqZ z) zs) (different-few zs)
     go true h = omega arith
     go false h = omega arith
 
-rows-length : (ps : List Point) → length (rowsOf ps) ≡ length ps
-unfolding rowsOf
-rows-length [] = refl
-rows-length (p ∷ ps) = ap suc (rows-length ps)
-
 rows-in : {q : Point} {ps : List Point} → In q ps → In (q .y) (rowsOf ps)
-unfolding rowsOf
 rows-in {ps = p ∷ ps} (head e) = head (ap (λ (r : Point). r .y) e)
 rows-in {ps = p ∷ ps} (tail n) = tail (rows-in n)
 
@@ -132,7 +126,7 @@ run-ends f ps R acc h w = go (leftAfter step f ps) refl (spent f ps)
 pub rule-ends : (ps : List Point) → Accepted ps → leftAfter step (enough ps) ps ≡ []
 rule-ends ps acc =
     let R : List ℤ = different (rowsOf ps) in
-    let few : length R - 1 ≤ length ps = omega (arith, rows-length ps, different-few (rowsOf ps)) in
+    let few : length R - 1 ≤ length ps = omega (arith, length-map ps (λ p. p .y), different-few (rowsOf ps)) in
     let square : length ps * (length R - 1) ≤ length ps * length ps = mul-le-mul-left (length ps) few in
     run-ends (enough ps) ps R acc (rows-listed ps) (omega (arith, start-weight ps R (rows-listed ps)))
 

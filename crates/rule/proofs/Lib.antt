@@ -12,3 +12,4 @@ pub mod Area
 pub mod Backward
 pub mod RoundTrip
 pub mod Cases
+pub mod Demands

@@ -16,7 +16,7 @@ use Rattle.plane.proofs.Order.{order, add-up, far-side, pos-up}
 use Rattle.plane.proofs.Bools.{by, and-parts, and-make, xor-back, xor-left-comm}
 use Rattle.plane.proofs.Sums.{sum-in, sum-zero, sum-length, count-in}
 use Rattle.plane.proofs.Points.{same-refl}
-use Rattle.rule.specs.Rule.{pickK, pickL, pickM, rectOf, toggleFour, taken, step, run, leftAfter}
+use Rattle.rule.specs.Rule.{pickK, pickL, pickM, rectOf, toggleFour, takeRect, step, run, leftAfter}
 use Rattle.rule.specs.Table.{Accepted}
 use Rattle.rule.proofs.Toggle.{odd-four, once-four, sum-four}
 use Rattle.rule.proofs.Picks.{Picked, level, right-of, higher, apart, picks}
@@ -84,17 +84,17 @@ module _ {ps : List Point} {k l : Point} {m : ℤ} (c : Picked ps k l m) where
 module _ (p : Point) (qs : List Point) (acc : Accepted (p ∷ qs)) where
   -- every step keeps rows and columns even, points distinct and all in range
   pub step-keeps-accepted : Accepted (step (p ∷ qs) .left)
-  unfolding step taken
+  unfolding step takeRect
   step-keeps-accepted = four-accepted (picks p qs acc) acc
 
   -- the number of points never grows
   pub step-never-grows : length (step (p ∷ qs) .left) ≤ length (p ∷ qs)
-  unfolding step taken
+  unfolding step takeRect
   step-never-grows = step-no-growth (picks p qs acc)
 
   -- the rectangle is one that backward accepts: W and H at least 1, all in range
   pub step-rect : (flat (step (p ∷ qs) .rect) ≡ false) × (rectInRange (step (p ∷ qs) .rect) ≡ true)
-  unfolding step taken
+  unfolding step takeRect
   step-rect = let c = picks p qs acc in (step-solid c, step-in-range c acc)
 
 -- ---- The steps as a relation: from the points, the rectangles made and the points left
@@ -105,7 +105,7 @@ pub data Steps : List Point → List Rect → List Point → Type 0 where
 
 -- the rule's run is such a run of steps
 pub steps : (n : ℕ) (ps : List Point) → Accepted ps → Steps ps (run step n ps) (leftAfter step n ps)
-unfolding run leftAfter step taken
+unfolding run leftAfter step takeRect
 steps zero ps acc = stay
 steps (suc n) [] acc = stay
 steps (suc n) (p ∷ qs) acc =

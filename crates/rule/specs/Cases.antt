@@ -10,7 +10,7 @@ use Rattle.plane.specs.declared.Point.{Point}
 use Rattle.plane.specs.declared.Rect.{Rect}
 use Rattle.plane.specs.Lists.{any, sum}
 use Rattle.plane.specs.Words.{lowEnd, highEnd, pointsOf, flatRects, areaOf}
-use Rattle.rule.specs.Rule.{Taken, firstOf, over, pickK, pickL, taken, run, enough}
+use Rattle.rule.specs.Rule.{Taken, firstOf, over, pickK, pickL, takeRect, run, enough}
 use Rattle.rule.specs.Answers.{forwardAnswer, forwardOut, forwardWork, backwardAnswer, backwardOut, stepAnswer, stepWork, stepNumber, stepPlace, stepValues}
 
 -- ---- What is asked
@@ -43,7 +43,7 @@ unfoldable pub paperStep : List Point → Taken
 paperStep ps =
     let k : Point = pickK ps in
     let l : Point = pickL k ps in
-    taken k l (paperM k l ps) ps
+    takeRect k l (paperM k l ps) ps
 
 unfoldable pub paperList : List ℤ → List Rect
 paperList a = run paperStep (enough (pointsOf a)) (pointsOf a)

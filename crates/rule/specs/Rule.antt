@@ -1,7 +1,7 @@
 -- The forward rule of document 01: K, L, the amended stop row M, the rectangle, the four toggles, and the list.
 use Prim.Native.Nat.{ℕ, zero, suc, _-_, _*_}
 use mathlib.Core.Bool.{Bool, true, false, not, cond, _&&_, _||_}
-use mathlib.Core.List.{List, [], _∷_, _++_}
+use mathlib.Core.List.{List, [], _∷_, _++_, map}
 use mathlib.Core.Option.{Option, none, some, Option·getD}
 use lib.ListN.{length, getD, take, set}
 use lib.IntN.{ℤ, _-ℤ_}
@@ -105,15 +105,15 @@ pub record Taken : Type 0 where
   pub left : List Point
 
 -- the rectangle between K, L and M, with its four toggles
-unfoldable pub taken : Point → Point → ℤ → List Point → Taken
-taken k l m ps = record { rect = rectOf k l m; left = toggleFour ps k l m }
+unfoldable pub takeRect : Point → Point → ℤ → List Point → Taken
+takeRect k l m ps = record { rect = rectOf k l m; left = toggleFour ps k l m }
 
 -- one step
 unfoldable pub step : List Point → Taken
 step ps =
     let k : Point = pickK ps in
     let l : Point = pickL k ps in
-    taken k l (pickM k l ps) ps
+    takeRect k l (pickM k l ps) ps
 
 -- the rectangles of so many steps, while points remain
 unfoldable pub run : (List Point → Taken) → ℕ → List Point → List Rect
@@ -143,9 +143,8 @@ different [] = []
 different (z ∷ zs) = keep (not (any (eqZ z) zs)) z (different zs)
 
 -- the rows of points
-unfoldable pub rowsOf : List Point → List ℤ
-rowsOf [] = []
-rowsOf (p ∷ ps) = p .y ∷ rowsOf ps
+abbrev pub rowsOf : List Point → List ℤ
+rowsOf ps = map (λ p. p .y) ps
 
 -- the number of different rows
 unfoldable pub rowCount : List Point → ℕ

@@ -1,0 +1,90 @@
+-- Document 01's sentences of whole arrays, with their limits, over what the entry points answer and leave: demand 3, the sums, and both
+-- directions one after the other.
+use mathlib.Core.Path.{_≡_, refl, sym, ap, _∙_}
+use mathlib.Core.Logic.{_↔_}
+use Prim.Native.Nat.{ℕ, _*_, _/_, _≤_, _<_, _^_}
+use native.Mathlib.Omega.{arith}
+use mathlib.Core.List.{List, _++_}
+use lib.ListN.{length, drop}
+use lib.IntN.{ℤ}
+use Rattle.plane.specs.Lists.{bit, count, odd}
+use Rattle.plane.specs.Words.{marks, holds, cells, pointsOf, flatPoints, rectsOf, flatRects, inOrder}
+use Rattle.plane.proofs.Arrays.{length-points, points-flat, length-flat-points, rects-flat, length-flat-rects}
+use Rattle.plane.proofs.Rising.{inOrder-length}
+use Rattle.rule.specs.Rule.{ruleList}
+use Rattle.rule.specs.Back.{backList}
+use Rattle.rule.specs.Table.{Verdict, accepted, refused, verdict, forwardRows, backwardRows, Accepted}
+use Rattle.rule.specs.Answers.{forwardSays, forwardAnswer, backwardAnswer, backwardOut}
+use Rattle.rule.proofs.Refusals.{ForwardAccepted, BackwardAccepted, forward-accepts-exactly, forward-accepted, backward-accepts-exactly, backward-accepted}
+use Rattle.rule.proofs.Cover.{rule-covers}
+use Rattle.rule.proofs.Canon.{rule-canon}
+use Rattle.rule.proofs.Rising.{rule-rects}
+use Rattle.rule.proofs.Area.{rule-area, rule-area-most, rule-edge-fits}
+use Rattle.rule.proofs.Backward.{back-accepted}
+use Rattle.rule.proofs.RoundTrip.{forward-backward, backward-forward}
+
+-- ---- Forward, where it answers 0
+
+module _ (a : List ℤ) (work out : ℕ) (done : forwardAnswer a work out .answer ≡ 0) where
+  forward-verdict : verdict (forwardRows a work out) ≡ accepted
+  forward-verdict = forward-accepts-exactly a work out .0 done
+
+  array-accepted : Accepted (pointsOf a)
+  array-accepted = forward-accepted a work out .0 forward-verdict .points
+
+  -- demand 3, first half: each unit cell is in one rectangle of the list if the points mark it, in none otherwise
+  pub forward-covers : (x y : ℤ) → count (holds x y) (ruleList (pointsOf a)) ≡ bit (marks (pointsOf a) x y)
+  forward-covers = rule-covers (pointsOf a) array-accepted
+
+  -- the area is the number of marked cells
+  pub forward-area : forwardAnswer a work out .area ≡ cells (marks (pointsOf a))
+  unfolding forwardAnswer
+  forward-area = rw forward-verdict (rule-area (pointsOf a) array-accepted)
+
+-- demand 3, second half: two arrays that forward accepts have equal lists exactly when they mark the same cells
+pub forward-canon : (a b : List ℤ) (wa oa wb ob : ℕ) → forwardAnswer a wa oa .answer ≡ 0 → forwardAnswer b wb ob .answer ≡ 0 → (ruleList (pointsOf a) ≡ ruleList (pointsOf b)) ↔ ((x y : ℤ) → marks (pointsOf a) x y ≡ marks (pointsOf b) x y)
+forward-canon a b wa oa wb ob da db = rule-canon (pointsOf a) (pointsOf b) (array-accepted a wa oa da) (array-accepted b wb ob db)
+
+-- whatever is given, the area is at most 4·10^18 and the edge fits 64 bits
+pub forward-sums-fit : (a : List ℤ) (work out : ℕ) → (forwardAnswer a work out .area ≤ 4_000_000_000_000_000_000) × (forwardAnswer a work out .edge < 2 ^ 64)
+unfolding forwardAnswer
+forward-sums-fit a work out = go (verdict (forwardRows a work out)) (λ e. forward-accepted a work out .0 e)
+  where
+    go : (v : Verdict) → (v ≡ accepted → ForwardAccepted a work out) → (forwardSays v (ruleList (pointsOf a)) .area ≤ 4_000_000_000_000_000_000) × (forwardSays v (ruleList (pointsOf a)) .edge < 2 ^ 64)
+    go accepted h = (rule-area-most (pointsOf a) (h refl .points), rule-edge-fits (pointsOf a) (h refl .points))
+    go (refused k p) h = (omega arith, omega arith)
+
+-- ---- Forward and then backward
+
+-- where the list has at most 16,384 rectangles and there is room, it gives the input's points in order of y, then x
+pub forward-then-backward : (a : List ℤ) (work out : ℕ) (points : List ℤ) → forwardAnswer a work out .answer ≡ 0 → length (ruleList (pointsOf a)) ≤ 16384 → length a ≤ length points → let list = flatRects (ruleList (pointsOf a)) in (backwardAnswer list (length points) ≡ record { answer = 0; place = 0; count = length a / 2 }) × (backwardOut list points ≡ flatPoints (inOrder (pointsOf a)) ++ drop (length a) points)
+unfolding backwardAnswer backwardOut
+forward-then-backward a work out points done few room =
+    let ps = pointsOf a in
+    let rs = ruleList ps in
+    let fits : ForwardAccepted a work out = forward-accepted a work out .0 (forward-verdict a work out done) in
+    let acc : Accepted ps = fits .points in
+    let back : backList (rectsOf (flatRects rs)) ≡ inOrder ps = ap backList (rects-flat rs) ∙ forward-backward ps acc in
+    let many : length (inOrder ps) ≡ length a / 2 = inOrder-length ps (acc .once) ∙ length-points a in
+    let all : length (flatPoints (inOrder ps)) ≡ length a = omega (arith, length-flat-points (inOrder ps), many, fits .even) in
+    let four = length-flat-rects rs in
+    let ok : verdict (backwardRows (flatRects rs) (length points)) ≡ accepted =
+        backward-accepted (flatRects rs) (length points) .1 (record { even = omega arith; few = omega arith; rects = rw (rects-flat rs) (rule-rects ps acc); room = rw back (omega (arith, many)) }) in
+    (rw (ok, back, many), rw (ok, back, all))
+
+-- ---- Backward and then forward
+
+-- forward accepts what backward answers, where it has at most 4,096 points and there is room
+pub backward-then-forward : (r : List ℤ) (points work out : ℕ) → backwardAnswer r points .answer ≡ 0 → let ps = backList (rectsOf r) in length ps ≤ 4096 → 2 * length ps ≤ work → length (ruleList ps) ≤ out / 4 → forwardAnswer (flatPoints ps) work out .answer ≡ 0
+backward-then-forward r points work out done few working room =
+    let ps = backList (rectsOf r) in
+    let acc = backward-accepted r points .0 (backward-accepts-exactly r points .0 done) .rects in
+    let two = length-flat-points ps in
+    forward-accepts-exactly (flatPoints ps) work out .1 (forward-accepted (flatPoints ps) work out .1 (record { even = omega arith; few = omega arith; working = omega arith; points = rw (points-flat ps) (back-accepted (rectsOf r) acc); room = rw (points-flat ps) room }))
+
+-- two rectangle lists that backward accepts have equal forward lists exactly when the same cells lie in an odd number of rectangles of each
+pub two-lists : (r s : List ℤ) (pr ps : ℕ) → backwardAnswer r pr .answer ≡ 0 → backwardAnswer s ps .answer ≡ 0 → (ruleList (backList (rectsOf r)) ≡ ruleList (backList (rectsOf s))) ↔ ((x y : ℤ) → odd (holds x y) (rectsOf r) ≡ odd (holds x y) (rectsOf s))
+two-lists r s pr ps dr ds = backward-forward (rectsOf r) (rectsOf s) (rects r pr dr) (rects s ps ds)
+  where
+    rects : (a : List ℤ) (out : ℕ) → backwardAnswer a out .answer ≡ 0 → Rattle.rule.specs.Table.AcceptedRects (rectsOf a)
+    rects a out done = backward-accepted a out .0 (backward-accepts-exactly a out .0 done) .rects

@@ -22,6 +22,8 @@ from dataclasses import dataclass, field
 from itertools import takewhile
 from pathlib import Path
 
+from counting import report
+
 PROMISES = "docs/PROMISES.md"
 README = "README.md"
 REFUSALS_HEADER = ["No.", "Name", "Given exactly when", "Place"]
@@ -323,11 +325,8 @@ def main():
     parser.add_argument("root", nargs="?", type=Path, default=Path(__file__).resolve().parent.parent)
     tally = Tally()
     open_count = check_all(parser.parse_args().root, tally)
-    for fault in tally.faults:
-        print(fault)
     print(f"open promises: {open_count}")
-    print(f"{tally.passed} passed, {len(tally.faults)} failed")
-    return 1 if tally.faults else 0
+    return report(tally.passed, tally.faults)
 
 
 if __name__ == "__main__":

@@ -9,6 +9,8 @@ import tempfile
 import unittest
 from pathlib import Path
 
+from counting import run_tests
+
 CHECKER = Path(__file__).resolve().parent / "promises.py"
 
 PROMISES = "docs/PROMISES.md"
@@ -145,7 +147,7 @@ class CheckerCase(unittest.TestCase):
     def assert_fault(self, changes, fault):
         """The tree has this fault and no other."""
         result = run_checker(changes)
-        *faults, _, last = result.stdout.splitlines() or ["", ""]
+        _, *faults, last = result.stdout.splitlines() or ["", ""]
         self.assertEqual(faults, [fault], result)
         self.assertRegex(last, r"^\d+ passed, 1 failed$")
         self.assertEqual(result.returncode, 1)
@@ -328,14 +330,5 @@ class Refusals(CheckerCase):
         self.assert_fault({"README.md": text}, "README.md: the table of refusals has a number twice")
 
 
-def main():
-    """Runs the tests, prints the counts, and gives the exit status."""
-    suite = unittest.defaultTestLoader.loadTestsFromModule(sys.modules[__name__])
-    result = unittest.TextTestRunner(stream=sys.stdout).run(suite)
-    failed = len(result.failures) + len(result.errors)
-    print(f"{result.testsRun - failed} passed, {failed} failed")
-    return 1 if failed else 0
-
-
 if __name__ == "__main__":
-    sys.exit(main())
+    sys.exit(run_tests(__name__))

@@ -2,7 +2,7 @@
 use mathlib.Core.Path.{_≡_, refl, ap}
 use Prim.Native.Nat.{_*_, _/_}
 use native.Mathlib.Omega.{arith}
-use mathlib.Core.List.{List, [], _∷_}
+use mathlib.Core.List.{List, [], _∷_, _++_}
 use lib.ListN.{length}
 use lib.IntN.{ℤ}
 use Rattle.plane.specs.declared.Point.{Point}
@@ -29,6 +29,12 @@ pub points-flat : (ps : List Point) → pointsOf (flatPoints ps) ≡ ps
 unfolding pointsOf flatPoints
 points-flat [] = refl
 points-flat (p ∷ ps) = ap (λ l. p ∷ l) (points-flat ps)
+
+-- points at the start of an array are its first points
+pub points-append : (ps : List Point) (rest : List ℤ) → pointsOf (flatPoints ps ++ rest) ≡ ps ++ pointsOf rest
+unfolding pointsOf flatPoints
+points-append [] rest = refl
+points-append (p ∷ ps) rest = ap (λ l. p ∷ l) (points-append ps rest)
 
 pub length-flat-points : (ps : List Point) → length (flatPoints ps) ≡ 2 * length ps
 unfolding flatPoints

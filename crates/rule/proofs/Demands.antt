@@ -1,6 +1,6 @@
 -- Document 01's sentences of whole arrays, with their limits, over what the entry points answer and leave: demand 3, the sums, and both
 -- directions one after the other.
-use mathlib.Core.Path.{_≡_, refl, sym, ap, _∙_}
+use mathlib.Core.Path.{_≡_, refl, ap, _∙_}
 use mathlib.Core.Logic.{_↔_}
 use Prim.Native.Nat.{ℕ, _*_, _/_, _≤_, _<_, _^_}
 use native.Mathlib.Omega.{arith}
@@ -13,9 +13,9 @@ use Rattle.plane.proofs.Arrays.{length-points, points-flat, length-flat-points,
 use Rattle.plane.proofs.Rising.{inOrder-length}
 use Rattle.rule.specs.Rule.{ruleList}
 use Rattle.rule.specs.Back.{backList}
-use Rattle.rule.specs.Table.{Verdict, accepted, refused, verdict, forwardRows, backwardRows, Accepted}
+use Rattle.rule.specs.Table.{Verdict, accepted, refused, verdict, forwardRows, backwardRows, Accepted, AcceptedRects}
 use Rattle.rule.specs.Answers.{forwardSays, forwardAnswer, backwardAnswer, backwardOut}
-use Rattle.rule.proofs.Refusals.{ForwardAccepted, BackwardAccepted, forward-accepts-exactly, forward-accepted, backward-accepts-exactly, backward-accepted}
+use Rattle.rule.proofs.Refusals.{ForwardAccepted, forward-accepts-exactly, forward-accepted, backward-accepts-exactly, backward-accepted}
 use Rattle.rule.proofs.Cover.{rule-covers}
 use Rattle.rule.proofs.Canon.{rule-canon}
 use Rattle.rule.proofs.Rising.{rule-rects}
@@ -69,22 +69,22 @@ forward-then-backward a work out points done few room =
     let all : length (flatPoints (inOrder ps)) ≡ length a = omega (arith, length-flat-points (inOrder ps), many, fits .even) in
     let four = length-flat-rects rs in
     let ok : verdict (backwardRows (flatRects rs) (length points)) ≡ accepted =
-        backward-accepted (flatRects rs) (length points) .1 (record { even = omega arith; few = omega arith; rects = rw (rects-flat rs) (rule-rects ps acc); room = rw back (omega (arith, many)) }) in
+    backward-accepted (flatRects rs) (length points) .1 (record { even = omega arith; few = omega arith; rects = rw (rects-flat rs) (rule-rects ps acc); room = rw back (omega (arith, many)) }) in
     (rw (ok, back, many), rw (ok, back, all))
 
 -- ---- Backward and then forward
+
+-- the rectangles that backward read
+rects-accepted : (r : List ℤ) (points : ℕ) → backwardAnswer r points .answer ≡ 0 → AcceptedRects (rectsOf r)
+rects-accepted r points done = backward-accepted r points .0 (backward-accepts-exactly r points .0 done) .rects
 
 -- forward accepts what backward answers, where it has at most 4,096 points and there is room
 pub backward-then-forward : (r : List ℤ) (points work out : ℕ) → backwardAnswer r points .answer ≡ 0 → let ps = backList (rectsOf r) in length ps ≤ 4096 → 2 * length ps ≤ work → length (ruleList ps) ≤ out / 4 → forwardAnswer (flatPoints ps) work out .answer ≡ 0
 backward-then-forward r points work out done few working room =
     let ps = backList (rectsOf r) in
-    let acc = backward-accepted r points .0 (backward-accepts-exactly r points .0 done) .rects in
     let two = length-flat-points ps in
-    forward-accepts-exactly (flatPoints ps) work out .1 (forward-accepted (flatPoints ps) work out .1 (record { even = omega arith; few = omega arith; working = omega arith; points = rw (points-flat ps) (back-accepted (rectsOf r) acc); room = rw (points-flat ps) room }))
+    forward-accepts-exactly (flatPoints ps) work out .1 (forward-accepted (flatPoints ps) work out .1 (record { even = omega arith; few = omega arith; working = omega arith; points = rw (points-flat ps) (back-accepted (rectsOf r) (rects-accepted r points done)); room = rw (points-flat ps) room }))
 
 -- two rectangle lists that backward accepts have equal forward lists exactly when the same cells lie in an odd number of rectangles of each
 pub two-lists : (r s : List ℤ) (pr ps : ℕ) → backwardAnswer r pr .answer ≡ 0 → backwardAnswer s ps .answer ≡ 0 → (ruleList (backList (rectsOf r)) ≡ ruleList (backList (rectsOf s))) ↔ ((x y : ℤ) → odd (holds x y) (rectsOf r) ≡ odd (holds x y) (rectsOf s))
-two-lists r s pr ps dr ds = backward-forward (rectsOf r) (rectsOf s) (rects r pr dr) (rects s ps ds)
-  where
-    rects : (a : List ℤ) (out : ℕ) → backwardAnswer a out .answer ≡ 0 → Rattle.rule.specs.Table.AcceptedRects (rectsOf a)
-    rects a out done = backward-accepted a out .0 (backward-accepts-exactly a out .0 done) .rects
+two-lists r s pr ps dr ds = backward-forward (rectsOf r) (rectsOf s) (rects-accepted r pr dr) (rects-accepted s ps ds)

@@ -16,7 +16,7 @@ use Rattle.plane.proofs.Cells.{corners-under}
 use Rattle.rule.specs.Rule.{over, leftOf, stops, rectOf, toggleFour}
 use Rattle.rule.specs.Table.{Accepted}
 use Rattle.rule.proofs.Toggle.{odd-four}
-use Rattle.rule.proofs.Picks.{Picked, after-k, level, right-of, gap, higher, clear}
+use Rattle.rule.proofs.Picks.{Picked, after-k, level, right-of, gap, higher, clear, over-make}
 
 -- ---- What a step does to the marks
 
@@ -73,7 +73,7 @@ module _ {ps : List Point} {k l : Point} {m : ℤ} (acc : Accepted ps) (c : Pick
 
   -- a row above K's and at or below the cell's does not stop, and so is even up to the cell
   row-clear : (q : Point) → In q ps → above-k (q .y) ≡ true → odd (λ p. onRow (q .y) p && leZ (p .x) a) ps ≡ false
-  unfolding stops over leftOf above-k
+  unfolding stops leftOf above-k
   row-clear q n e =
       let h = and-parts (ltZ (k .y) (q .y)) (leZ (q .y) b) e in
       let s = or-parts (any (over (k .x) (l .x) (q .y)) ps) (odd (leftOf (k .x) (q .y)) ps) (clear c q n (h .0) (omega order)) in
@@ -85,7 +85,7 @@ module _ {ps : List Point} {k l : Point} {m : ℤ} (acc : Accepted ps) (c : Pick
         where
           go : leZ (p .x) a ≡ true → (u : Bool) → ltZ (p .x) (k .x) ≡ u → u ≡ true
           go i true f = refl
-          go i false f = clash (any-in (over (k .x) (l .x) (q .y)) o (and-make (onRow (q .y) p) (leZ (k .x) (p .x) && ltZ (p .x) (l .x)) d (and-make (leZ (k .x) (p .x)) (ltZ (p .x) (l .x)) (omega order) (omega order)))) none
+          go i false f = clash (any-in (over (k .x) (l .x) (q .y)) o (over-make (k .x) (l .x) (q .y) p d (omega order) (omega order))) none
 
   rows-above : odd (λ p. not (onRow (k .y) p) && under a b p) ps ≡ false
   unfolding onRow under above-k

@@ -1,3 +1,4 @@
+pub mod Cases
 pub mod Verdicts
 pub mod Refusals
 pub mod Toggle
@@ -11,5 +12,5 @@ pub mod Canon
 pub mod Area
 pub mod Backward
 pub mod RoundTrip
-pub mod Cases
 pub mod Demands
+pub mod Memory

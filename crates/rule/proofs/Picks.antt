@@ -131,6 +131,11 @@ module _ {ps : List Point} {k l : Point} {m : ℤ} (c : Picked ps k l m) where
 
 -- ---- They exist
 
+-- a point of a row, at or right of xK and left of xL, stops
+pub over-make : (xk xl y : ℤ) (q : Point) → onRow y q ≡ true → leZ xk (q .x) ≡ true → ltZ (q .x) xl ≡ true → over xk xl y q ≡ true
+unfolding over
+over-make xk xl y q a b c = let d : leZ (q .x) xl ≡ true = omega order in simp (a, b, c, d)
+
 -- an even test that K passes has another point
 another : (f : Point → Bool) {k : Point} {ps : List Point} → In k ps → count (same k) ps ≤ 1 → f k ≡ true → odd f ps ≡ false → (q : Point) × In q ps × (same k q ≡ false) × (f q ≡ true)
 another f {k} {ps} n o e h =
@@ -166,11 +171,11 @@ module _ {ps : List Point} {k : Point} (acc : Accepted ps) (f : IsFirst (λ p. t
 
   -- K's column is even, so a point stands above K, and stops
   m-exists : (l : Point) → ltZ (k .x) (l .x) ≡ true → IsFirst (stopper k l ps) ps (Option·getD (firstOf (stopper k l ps) ps) k)
-  unfolding stopper stops over onRow inColumn
+  unfolding stopper stops onRow inColumn
   m-exists l r =
       let q = another (inColumn (k .x)) (f .within) (acc .once k) (eqZ-refl (k .x)) (acc .columns (k .x)) in
       let e : q .0 .x ≡ k .x = eqZ-is _ _ (q .3) in
-      let inside = any-in (over (k .x) (l .x) (q .0 .y)) (q .1) (and-make _ _ (eqZ-refl (q .0 .y)) (and-make (leZ (k .x) (q .0 .x)) (ltZ (q .0 .x) (l .x)) (omega order) (omega order))) in
+      let inside = any-in (over (k .x) (l .x) (q .0 .y)) (q .1) (over-make (k .x) (l .x) (q .0 .y) (q .0) (eqZ-refl (q .0 .y)) (omega order) (omega order)) in
       first-found (stopper k l ps) ps k (q .1) (and-make _ _ (apart-y k (q .0) (q .2) e (f .least (q .0) (q .1) refl)) (rw inside))
 
 -- L and M exist, at an accepted list that is not empty

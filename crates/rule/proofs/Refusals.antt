@@ -51,7 +51,8 @@ step-numbers : (work : List ℤ) (n : ℕ) → Numbers (λ k. (1 ≤ k) × (k �
 unfolding stepRows pointRows numberOf
 step-numbers work n = omega arith
 
-forward-says : (a : List ℤ) (work out : ℕ) → (forwardAnswer a work out .answer ≡ numberIn (verdict (forwardRows a work out))) × (forwardAnswer a work out .place ≡ placeIn (verdict (forwardRows a work out)))
+-- each answer has its verdict's number and place
+pub forward-says : (a : List ℤ) (work out : ℕ) → (forwardAnswer a work out .answer ≡ numberIn (verdict (forwardRows a work out))) × (forwardAnswer a work out .place ≡ placeIn (verdict (forwardRows a work out)))
 unfolding forwardAnswer
 forward-says a work out = go (verdict (forwardRows a work out)) (ruleList (pointsOf a))
   where
@@ -59,7 +60,7 @@ forward-says a work out = go (verdict (forwardRows a work out)) (ruleList (point
     go accepted rs = (refl, refl)
     go (refused k p) rs = (refl, refl)
 
-backward-says : (a : List ℤ) (out : ℕ) → (backwardAnswer a out .answer ≡ numberIn (verdict (backwardRows a out))) × (backwardAnswer a out .place ≡ placeIn (verdict (backwardRows a out)))
+pub backward-says : (a : List ℤ) (out : ℕ) → (backwardAnswer a out .answer ≡ numberIn (verdict (backwardRows a out))) × (backwardAnswer a out .place ≡ placeIn (verdict (backwardRows a out)))
 unfolding backwardAnswer
 backward-says a out = go (verdict (backwardRows a out)) (backList (rectsOf a))
   where
@@ -67,7 +68,7 @@ backward-says a out = go (verdict (backwardRows a out)) (backList (rectsOf a))
     go accepted ps = (refl, refl)
     go (refused k p) ps = (refl, refl)
 
-step-says : (work : List ℤ) (n : ℕ) → (stepNumber (stepAnswer work n) ≡ numberIn (verdict (stepRows work n))) × (stepPlace (stepAnswer work n) ≡ placeIn (verdict (stepRows work n)))
+pub step-says : (work : List ℤ) (n : ℕ) → (stepNumber (stepAnswer work n) ≡ numberIn (verdict (stepRows work n))) × (stepPlace (stepAnswer work n) ≡ placeIn (verdict (stepRows work n)))
 unfolding stepAnswer
 step-says work n = go (verdict (stepRows work n)) (step (take n (pointsOf work)))
   where

@@ -97,7 +97,7 @@ once-toggle ps p h q = go (toggled ps p) (same q p) refl
 
 pub odd-four : (f : Point → Bool) (ps : List Point) (k l : Point) (m : ℤ) → odd f (toggleFour ps k l m) ≡ xor (f (record { x = l .x; y = m })) (xor (f (record { x = k .x; y = m })) (xor (f l) (xor (f k) (odd f ps))))
 unfolding toggleFour
-odd-four f ps k l m = rw (odd-toggle f _ (record { x = l .x; y = m }), odd-toggle f _ (record { x = k .x; y = m }), odd-toggle f _ l, odd-toggle f ps k)
+odd-four f ps k l m = odd-toggle f _ _ ∙ ap (xor _) (odd-toggle f _ _ ∙ ap (xor _) (odd-toggle f _ l ∙ ap (xor (f l)) (odd-toggle f ps k)))
 
 pub once-four : (ps : List Point) (k l : Point) (m : ℤ) → ((q : Point) → count (same q) ps ≤ 1) → (q : Point) → count (same q) (toggleFour ps k l m) ≤ 1
 unfolding toggleFour

@@ -1,0 +1,221 @@
+-- Document 01's sentences on what comes back and on lent arrays: what is 0 beside a refusal, what is written, what is zeroed, and
+-- what is untouched.
+use mathlib.Core.Path.{_≡_, refl, sym, ap, _∙_}
+use mathlib.Core.Logic.{_≢_, _⊎_, inl, inr}
+use Prim.Native.Nat.{ℕ, _+_, _-_, _*_, _/_, _≤_}
+use native.Mathlib.Omega.{arith}
+use native.Mathlib.Nat.{sub-zero}
+use mathlib.Core.List.{List, [], _∷_, _++_, append-assoc}
+use lib.ListN.{length, take, drop, replicate, length-append, length-take, length-drop, length-replicate}
+use lib.Seq.{take-append-seam, drop-append-seam}
+use lib.IntN.{ℤ, pos}
+use lib.Dec.{eqb}
+use borrow.Author.Tests.{eqb-true, eq-eqb, ne-eqb}
+use Rattle.plane.specs.declared.Point.{Point}
+use Rattle.plane.specs.Words.{pointsOf, flatPoints, rectsOf, flatRects}
+use Rattle.plane.proofs.Bools.{cond-case}
+use Rattle.plane.proofs.Arrays.{length-points, points-append, length-flat-points, length-flat-rects}
+use Rattle.rule.specs.Rule.{Taken, step, ruleList}
+use Rattle.rule.specs.Back.{backList}
+use Rattle.rule.specs.Table.{Verdict, accepted, refused, verdict, forwardRows, backwardRows, stepRows, Accepted}
+use Rattle.rule.specs.Answers.{written, workOf, forwardSays, forwardAnswer, forwardOut, drained, forwardWork, backwardSays, backwardAnswer, backwardOut, stepSays, stepAnswer, stepLeaves, stepWork, stepNumber, stepPlace, stepValues}
+use Rattle.rule.proofs.Verdicts.{numberIn, placeIn}
+use Rattle.rule.proofs.Refusals.{forward-says, backward-says, step-says, forward-accepts-exactly, forward-accepted, forward-lacks-room, backward-accepts-exactly, backward-accepted, step-accepts-exactly, step-accepted}
+use Rattle.rule.proofs.Steps.{step-never-grows}
+
+-- ---- An output
+
+-- the result stands at the start, and the rest is unchanged
+pub record Starts (result out exit : List ℤ) : Type 0 where
+  pub start : take (length result) exit ≡ result
+  pub rest : drop (length result) exit ≡ drop (length result) out
+
+written-done : (v : Verdict) (result out : List ℤ) → v ≡ accepted → Starts result out (written v result out)
+written-done v result out e = rw e (record { start = take-append-seam result _; rest = drop-append-seam result _ })
+
+written-refused : (v : Verdict) (result out : List ℤ) → numberIn v ≢ 0 → written v result out ≡ out
+written-refused accepted result out n = absurd (n refl)
+written-refused (refused k p) result out n = refl
+
+written-length : (v : Verdict) (result out : List ℤ) → (v ≡ accepted → length result ≤ length out) → length (written v result out) ≡ length out
+written-length accepted result out h = let k = h refl in omega (arith, length-append result (drop (length result) out), length-drop (length result) out)
+written-length (refused k p) result out h = refl
+
+-- ---- A working array
+
+module _ (n : ℕ) (ps : List Point) (work : List ℤ) (few : length ps ≤ n) where
+  used : List ℤ
+  used = flatPoints ps ++ replicate (2 * (n - length ps)) (pos 0)
+
+  used-length : length used ≡ 2 * n
+  unfolding used
+  used-length = omega (arith, length-append (flatPoints ps) (replicate (2 * (n - length ps)) (pos 0)), length-flat-points ps, length-replicate (2 * (n - length ps)) (pos 0))
+
+  work-parts : workOf n ps work ≡ used ++ drop (2 * n) work
+  unfolding workOf used
+  work-parts = sym (append-assoc (flatPoints ps) (replicate (2 * (n - length ps)) (pos 0)) (drop (2 * n) work))
+
+  -- it has the points, then zeros up to twice the count given
+  pub work-used : take (2 * n) (workOf n ps work) ≡ flatPoints ps ++ replicate (2 * (n - length ps)) (pos 0)
+  unfolding used
+  work-used = rw (work-parts, ← used-length) (take-append-seam used (drop (length used) work))
+
+  -- past that it is unchanged
+  pub work-past : drop (2 * n) (workOf n ps work) ≡ drop (2 * n) work
+  work-past = rw (work-parts, ← used-length) (drop-append-seam used (drop (length used) work))
+
+  -- its length stays
+  work-length : 2 * n ≤ length work → length (workOf n ps work) ≡ length work
+  work-length h = rw work-parts (omega (arith, length-append used (drop (2 * n) work), used-length, length-drop (2 * n) work))
+
+  -- its points are those
+  pub work-points : take (length ps) (pointsOf (workOf n ps work)) ≡ ps
+  unfolding workOf
+  work-points = rw (points-append ps (replicate (2 * (n - length ps)) (pos 0) ++ drop (2 * n) work)) (take-append-seam ps _)
+
+-- ---- Forward
+
+module _ (a : List ℤ) (work out : ℕ) where
+  -- on answer 0 the place is 0
+  pub forward-done-place : forwardAnswer a work out .answer ≡ 0 → forwardAnswer a work out .place ≡ 0
+  forward-done-place e = forward-says a work out .1 ∙ ap placeIn (forward-accepts-exactly a work out .0 e)
+
+  -- on a refusal all but answer and place are 0
+  pub forward-refused-rest : forwardAnswer a work out .answer ≢ 0 → (forwardAnswer a work out .count ≡ 0) × (forwardAnswer a work out .area ≡ 0) × (forwardAnswer a work out .edge ≡ 0)
+  unfolding forwardAnswer
+  forward-refused-rest n = go (verdict (forwardRows a work out)) n
+    where
+      go : (v : Verdict) → forwardSays v (ruleList (pointsOf a)) .answer ≢ 0 → (forwardSays v (ruleList (pointsOf a)) .count ≡ 0) × (forwardSays v (ruleList (pointsOf a)) .area ≡ 0) × (forwardSays v (ruleList (pointsOf a)) .edge ≡ 0)
+      go accepted n = absurd (n refl)
+      go (refused k p) n = (refl, refl, refl)
+
+module _ (a : List ℤ) (work : ℕ) (out : List ℤ) where
+  -- on 0 the output holds the list at its start and is otherwise unchanged
+  pub forward-writes : forwardAnswer a work (length out) .answer ≡ 0 → Starts (flatRects (ruleList (pointsOf a))) out (forwardOut a work out)
+  unfolding forwardOut
+  forward-writes e = written-done (verdict (forwardRows a work (length out))) (flatRects (ruleList (pointsOf a))) out (forward-accepts-exactly a work (length out) .0 e)
+
+  -- on any refusal it is unchanged
+  pub forward-refused-out : forwardAnswer a work (length out) .answer ≢ 0 → forwardOut a work out ≡ out
+  unfolding forwardOut
+  forward-refused-out n = written-refused (verdict (forwardRows a work (length out))) (flatRects (ruleList (pointsOf a))) out (λ e. n (forward-says a work (length out) .0 ∙ e))
+
+  -- its length stays
+  pub forward-out-length : length (forwardOut a work out) ≡ length out
+  unfolding forwardOut
+  forward-out-length = written-length (verdict (forwardRows a work (length out))) (flatRects (ruleList (pointsOf a))) out (λ e. let c = forward-accepted a work (length out) .0 e in omega (arith, length-flat-rects (ruleList (pointsOf a)), c .room))
+
+module _ (a work : List ℤ) (out : ℕ) where
+  -- with any refusal but 8 the working array is untouched
+  pub forward-refused-work : forwardAnswer a (length work) out .answer ≢ 0 → forwardAnswer a (length work) out .answer ≢ 8 → forwardWork a work out ≡ work
+  unfolding forwardWork
+  forward-refused-work n m = go (verdict (forwardRows a (length work) out)) (λ e. n (forward-says a (length work) out .0 ∙ e)) (λ e. m (forward-says a (length work) out .0 ∙ e))
+    where
+      go : (v : Verdict) → numberIn v ≢ 0 → numberIn v ≢ 8 → drained v (length a / 2) work ≡ work
+      go accepted n m = absurd (n refl)
+      go (refused k p) n m = rw (ne-eqb k 8 m)
+
+  zeroed : Starts (replicate (2 * (length a / 2)) (pos 0)) work (workOf (length a / 2) [] work)
+  unfolding flatPoints
+  zeroed =
+      let n : ℕ = length a / 2 in
+      record {
+        start = rw (length-replicate (2 * n) (pos 0)) (work-used n [] work (omega arith) ∙ ap (λ k. replicate (2 * k) (pos 0)) (sub-zero n));
+        rest = rw (length-replicate (2 * n) (pos 0)) (work-past n [] work (omega arith));
+      }
+
+  -- with 0 and 8 its first 2n numbers are 0 and the rest unchanged
+  pub forward-zeroed-work : (forwardAnswer a (length work) out .answer ≡ 0) ⊎ (forwardAnswer a (length work) out .answer ≡ 8) → Starts (replicate (2 * (length a / 2)) (pos 0)) work (forwardWork a work out)
+  unfolding forwardWork
+  forward-zeroed-work h = go (verdict (forwardRows a (length work) out)) (says h)
+    where
+      says : (forwardAnswer a (length work) out .answer ≡ 0) ⊎ (forwardAnswer a (length work) out .answer ≡ 8) → (verdict (forwardRows a (length work) out) ≡ accepted) ⊎ (numberIn (verdict (forwardRows a (length work) out)) ≡ 8)
+      says (inl e) = inl (forward-accepts-exactly a (length work) out .0 e)
+      says (inr e) = inr (sym (forward-says a (length work) out .0) ∙ e)
+
+      go : (v : Verdict) → (v ≡ accepted) ⊎ (numberIn v ≡ 8) → Starts (replicate (2 * (length a / 2)) (pos 0)) work (drained v (length a / 2) work)
+      go v (inl e) = rw e zeroed
+      go accepted (inr e) = zeroed
+      go (refused k p) (inr e) = rw (eq-eqb k 8 e) zeroed
+
+  -- its length stays
+  pub forward-work-length : length (forwardWork a work out) ≡ length work
+  unfolding forwardWork
+  forward-work-length = go (verdict (forwardRows a (length work) out)) (λ e. forward-accepted a (length work) out .0 e .working) (λ p e. forward-lacks-room a (length work) out p .0 e .0 .working)
+    where
+      go : (v : Verdict) → (v ≡ accepted → 2 * (length a / 2) ≤ length work) → ((p : ℕ) → v ≡ refused 8 p → 2 * (length a / 2) ≤ length work) → length (drained v (length a / 2) work) ≡ length work
+      go accepted h g = work-length (length a / 2) [] work (omega arith) (h refl)
+      go (refused k p) h g = cond-case (λ (l : List ℤ). length l ≡ length work) (eqb k 8) (λ e. work-length (length a / 2) [] work (omega arith) (g p (ap (λ m. refused m p) (eqb-true k 8 e)))) (λ e. refl)
+
+-- ---- Backward
+
+module _ (a : List ℤ) (out : ℕ) where
+  -- on answer 0 the place is 0
+  pub backward-done-place : backwardAnswer a out .answer ≡ 0 → backwardAnswer a out .place ≡ 0
+  backward-done-place e = backward-says a out .1 ∙ ap placeIn (backward-accepts-exactly a out .0 e)
+
+  -- on a refusal the count is 0
+  pub backward-refused-rest : backwardAnswer a out .answer ≢ 0 → backwardAnswer a out .count ≡ 0
+  unfolding backwardAnswer
+  backward-refused-rest n = go (verdict (backwardRows a out)) n
+    where
+      go : (v : Verdict) → backwardSays v (backList (rectsOf a)) .answer ≢ 0 → backwardSays v (backList (rectsOf a)) .count ≡ 0
+      go accepted n = absurd (n refl)
+      go (refused k p) n = refl
+
+module _ (a out : List ℤ) where
+  -- on 0 the output holds the points at its start and is otherwise unchanged
+  pub backward-writes : backwardAnswer a (length out) .answer ≡ 0 → Starts (flatPoints (backList (rectsOf a))) out (backwardOut a out)
+  unfolding backwardOut
+  backward-writes e = written-done (verdict (backwardRows a (length out))) (flatPoints (backList (rectsOf a))) out (backward-accepts-exactly a (length out) .0 e)
+
+  -- on any refusal it is unchanged
+  pub backward-refused-out : backwardAnswer a (length out) .answer ≢ 0 → backwardOut a out ≡ out
+  unfolding backwardOut
+  backward-refused-out n = written-refused (verdict (backwardRows a (length out))) (flatPoints (backList (rectsOf a))) out (λ e. n (backward-says a (length out) .0 ∙ e))
+
+  -- its length stays
+  pub backward-out-length : length (backwardOut a out) ≡ length out
+  unfolding backwardOut
+  backward-out-length = written-length (verdict (backwardRows a (length out))) (flatPoints (backList (rectsOf a))) out (λ e. let c = backward-accepted a (length out) .0 e in omega (arith, length-flat-points (backList (rectsOf a)), c .room))
+
+-- ---- A step
+
+module _ (work : List ℤ) (n : ℕ) where
+  -- with a rectangle the place is 0
+  pub step-done-place : stepNumber (stepAnswer work n) ≡ 0 → stepPlace (stepAnswer work n) ≡ 0
+  step-done-place e = step-says work n .1 ∙ ap placeIn (step-accepts-exactly work n .0 e)
+
+  -- on a refusal the working array is unchanged, and there are no other values
+  pub step-refused-work : stepNumber (stepAnswer work n) ≢ 0 → (stepWork work n ≡ work) × (stepValues (stepAnswer work n) ≡ [])
+  unfolding stepAnswer stepWork
+  step-refused-work m = go (verdict (stepRows work n)) (step (take n (pointsOf work))) m
+    where
+      go : (v : Verdict) (t : Taken) → stepNumber (stepSays v t) ≢ 0 → (stepLeaves v t n work ≡ work) × (stepValues (stepSays v t) ≡ [])
+      go accepted t m = absurd (m refl)
+      go (refused k p) t m = (refl, refl)
+
+  -- an accepted step leaves no more points than it was given
+  step-few : verdict (stepRows work n) ≡ accepted → length (step (take n (pointsOf work)) .left) ≤ n
+  step-few v = let c = step-accepted work n .0 v in go (take n (pointsOf work)) (c .points) (omega (arith, length-take n (pointsOf work), length-points work, c .working)) (c .some-left)
+    where
+      go : (ps : List Point) → Accepted ps → length ps ≡ n → 1 ≤ n → length (step ps .left) ≤ n
+      go [] acc e h = absurd (omega arith)
+      go (p ∷ ps) acc e h = let g = step-never-grows p ps acc in omega arith
+
+  -- with a rectangle the working array has the points left, zeros up to twice the count given, and past that it is unchanged
+  pub step-leaves : stepNumber (stepAnswer work n) ≡ 0 → let left = step (take n (pointsOf work)) .left in (take (2 * n) (stepWork work n) ≡ flatPoints left ++ replicate (2 * (n - length left)) (pos 0)) × (drop (2 * n) (stepWork work n) ≡ drop (2 * n) work)
+  unfolding stepWork
+  step-leaves e =
+      let left = step (take n (pointsOf work)) .left in
+      let v = step-accepts-exactly work n .0 e in
+      rw v (work-used n left work (step-few v), work-past n left work (step-few v))
+
+  -- its length stays
+  pub step-work-length : length (stepWork work n) ≡ length work
+  unfolding stepWork
+  step-work-length = go (verdict (stepRows work n)) (step (take n (pointsOf work))) (λ e. (step-few e, step-accepted work n .0 e .working))
+    where
+      go : (v : Verdict) (t : Taken) → (v ≡ accepted → (length (t .left) ≤ n) × (2 * n ≤ length work)) → length (stepLeaves v t n work) ≡ length work
+      go accepted t h = work-length n (t .left) work (h refl .0) (h refl .1)
+      go (refused k p) t h = refl

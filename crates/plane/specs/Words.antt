@@ -18,10 +18,11 @@ eqZ (pos a) (negsuc b) = false
 eqZ (negsuc a) (pos b) = false
 eqZ (negsuc a) (negsuc b) = eqb a b
 
--- -1,000,000,000 and 1,000,000,000, the ends of the range
+-- -1,000,000,000, the low end of the range
 abbrev pub lowEnd : ℤ
 lowEnd = negsuc 999_999_999
 
+-- 1,000,000,000, the high end
 abbrev pub highEnd : ℤ
 highEnd = pos 1_000_000_000
 
@@ -55,11 +56,11 @@ unfoldable pub same : Point → Point → Bool
 same p q = eqZ (p .x) (q .x) && eqZ (p .y) (q .y)
 
 -- a point is of row y
-unfoldable pub onRow : ℤ → Point → Bool
+unfoldable pub onRow : (y : ℤ) → Point → Bool
 onRow y p = eqZ (p .y) y
 
 -- a point is of column x
-unfoldable pub inColumn : ℤ → Point → Bool
+unfoldable pub inColumn : (x : ℤ) → Point → Bool
 inColumn x p = eqZ (p .x) x
 
 -- p comes before q in the order of y, then x
@@ -101,10 +102,11 @@ unfoldable pub flatRects : List Rect → List ℤ
 flatRects [] = []
 flatRects (r ∷ rs) = r .x ∷ r .y ∷ r .w ∷ r .h ∷ flatRects rs
 
--- the far sides, X + W and Y + H
+-- the far side X + W
 abbrev pub right : Rect → ℤ
 right r = r .x +ℤ r .w
 
+-- the far side Y + H
 abbrev pub top : Rect → ℤ
 top r = r .y +ℤ r .h
 
@@ -124,29 +126,30 @@ lowerLeft r = record { x = r .x; y = r .y }
 unfoldable pub cornersOf : Rect → List Point
 cornersOf r = lowerLeft r ∷ record { x = right r; y = r .y } ∷ record { x = r .x; y = top r } ∷ record { x = right r; y = top r } ∷ []
 
--- W · H, and 2 (W + H)
+-- W · H, where both are at least 1
 unfoldable pub areaOf : Rect → ℕ
 areaOf r = natAbs (r .w) * natAbs (r .h)
 
+-- 2 · (W + H)
 unfoldable pub edgeOf : Rect → ℕ
 edgeOf r = 2 * (natAbs (r .w) + natAbs (r .h))
 
 -- ---- Cells: (a, b) is the unit square with lower left corner (a, b)
 
 -- a rectangle holds the cell
-unfoldable pub holds : ℤ → ℤ → Rect → Bool
+unfoldable pub holds : (a b : ℤ) → Rect → Bool
 holds a b r = (leZ (r .x) a && ltZ a (right r)) && (leZ (r .y) b && ltZ b (top r))
 
 -- a point has x ≤ a and y ≤ b
-unfoldable pub under : ℤ → ℤ → Point → Bool
+unfoldable pub under : (a b : ℤ) → Point → Bool
 under a b p = leZ (p .x) a && leZ (p .y) b
 
 -- points mark the cell: an odd number of them have x ≤ a and y ≤ b
-unfoldable pub marks : List Point → ℤ → ℤ → Bool
+unfoldable pub marks : List Point → (a b : ℤ) → Bool
 marks ps a b = odd (under a b) ps
 
 -- how many cells of a square of n by n cells with lower left corner (z, z) pass a test
-unfoldable pub cellsFrom : ℤ → ℕ → (ℤ → ℤ → Bool) → ℕ
+unfoldable pub cellsFrom : (z : ℤ) (n : ℕ) → (ℤ → ℤ → Bool) → ℕ
 cellsFrom z n t = sumBelow n (λ i. sumBelow n (λ j. bit (t (z +ℤ pos i) (z +ℤ pos j))))
 
 -- how many cells of the range pass a test

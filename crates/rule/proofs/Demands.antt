@@ -13,7 +13,7 @@ use Rattle.plane.proofs.Arrays.{length-points, points-flat, length-flat-points,
 use Rattle.plane.proofs.Rising.{inOrder-length}
 use Rattle.rule.specs.Rule.{ruleList}
 use Rattle.rule.specs.Back.{backList}
-use Rattle.rule.specs.Table.{Verdict, accepted, refused, verdict, forwardRows, backwardRows, Accepted, AcceptedRects}
+use Rattle.rule.specs.Table.{Verdict, accepted, refused, verdict, forwardChecks, backwardChecks, Accepted, AcceptedRects}
 use Rattle.rule.specs.Answers.{forwardSays, forwardAnswer, backwardAnswer, backwardOut}
 use Rattle.rule.proofs.Refusals.{ForwardAccepted, forward-accepts-exactly, forward-accepted, backward-accepts-exactly, backward-accepted}
 use Rattle.rule.proofs.Cover.{rule-covers}
@@ -26,7 +26,7 @@ use Rattle.rule.proofs.RoundTrip.{forward-backward, backward-forward}
 -- ---- Forward, where it answers 0
 
 module _ (a : List ℤ) (work out : ℕ) (done : forwardAnswer a work out .answer ≡ 0) where
-  forward-verdict : verdict (forwardRows a work out) ≡ accepted
+  forward-verdict : verdict (forwardChecks a work out) ≡ accepted
   forward-verdict = forward-accepts-exactly a work out .0 done
 
   array-accepted : Accepted (pointsOf a)
@@ -48,7 +48,7 @@ forward-canon a b wa oa wb ob da db = rule-canon (pointsOf a) (pointsOf b) (arra
 -- whatever is given, the area is at most 4·10^18 and the edge fits 64 bits
 pub forward-sums-fit : (a : List ℤ) (work out : ℕ) → (forwardAnswer a work out .area ≤ 4_000_000_000_000_000_000) × (forwardAnswer a work out .edge < 2 ^ 64)
 unfolding forwardAnswer
-forward-sums-fit a work out = go (verdict (forwardRows a work out)) (λ e. forward-accepted a work out .0 e)
+forward-sums-fit a work out = go (verdict (forwardChecks a work out)) (λ e. forward-accepted a work out .0 e)
   where
     go : (v : Verdict) → (v ≡ accepted → ForwardAccepted a work out) → (forwardSays v (ruleList (pointsOf a)) .area ≤ 4_000_000_000_000_000_000) × (forwardSays v (ruleList (pointsOf a)) .edge < 2 ^ 64)
     go accepted h = (rule-area-most (pointsOf a) (h refl .points), rule-edge-fits (pointsOf a) (h refl .points))
@@ -68,7 +68,7 @@ forward-then-backward a work out points done few room =
     let many : length (inOrder ps) ≡ length a / 2 = inOrder-length ps (acc .once) ∙ length-points a in
     let all : length (flatPoints (inOrder ps)) ≡ length a = omega (arith, length-flat-points (inOrder ps), many, fits .even) in
     let four = length-flat-rects rs in
-    let ok : verdict (backwardRows (flatRects rs) (length points)) ≡ accepted =
+    let ok : verdict (backwardChecks (flatRects rs) (length points)) ≡ accepted =
     backward-accepted (flatRects rs) (length points) .1 (record { even = omega arith; few = omega arith; rects = rw (rects-flat rs) (rule-rects ps acc); room = rw back (omega (arith, many)) }) in
     (rw (ok, back, many), rw (ok, back, all))
 

@@ -2,7 +2,7 @@
 -- what is untouched.
 use mathlib.Core.Path.{_≡_, refl, sym, ap, _∙_}
 use mathlib.Core.Logic.{_≢_, _⊎_, inl, inr}
-use Prim.Native.Nat.{ℕ, _+_, _-_, _*_, _/_, _≤_}
+use Prim.Native.Nat.{ℕ, _-_, _*_, _/_, _≤_}
 use native.Mathlib.Omega.{arith}
 use native.Mathlib.Nat.{sub-zero}
 use mathlib.Core.List.{List, [], _∷_, _++_, append-assoc}
@@ -17,7 +17,7 @@ use Rattle.plane.proofs.Bools.{cond-case}
 use Rattle.plane.proofs.Arrays.{length-points, points-append, length-flat-points, length-flat-rects}
 use Rattle.rule.specs.Rule.{Taken, step, ruleList}
 use Rattle.rule.specs.Back.{backList}
-use Rattle.rule.specs.Table.{Verdict, accepted, refused, verdict, forwardRows, backwardRows, stepRows, Accepted}
+use Rattle.rule.specs.Table.{Verdict, accepted, refused, verdict, forwardChecks, backwardChecks, stepChecks, Accepted}
 use Rattle.rule.specs.Answers.{written, workOf, forwardSays, forwardAnswer, forwardOut, drained, forwardWork, backwardSays, backwardAnswer, backwardOut, stepSays, stepAnswer, stepLeaves, stepWork, stepNumber, stepPlace, stepValues}
 use Rattle.rule.proofs.Verdicts.{numberIn, placeIn}
 use Rattle.rule.proofs.Refusals.{forward-says, backward-says, step-says, forward-accepts-exactly, forward-accepted, forward-lacks-room, backward-accepts-exactly, backward-accepted, step-accepts-exactly, step-accepted}
@@ -83,7 +83,7 @@ module _ (a : List ℤ) (work out : ℕ) where
   -- on a refusal all but answer and place are 0
   pub forward-refused-rest : forwardAnswer a work out .answer ≢ 0 → (forwardAnswer a work out .count ≡ 0) × (forwardAnswer a work out .area ≡ 0) × (forwardAnswer a work out .edge ≡ 0)
   unfolding forwardAnswer
-  forward-refused-rest n = go (verdict (forwardRows a work out)) n
+  forward-refused-rest n = go (verdict (forwardChecks a work out)) n
     where
       go : (v : Verdict) → forwardSays v (ruleList (pointsOf a)) .answer ≢ 0 → (forwardSays v (ruleList (pointsOf a)) .count ≡ 0) × (forwardSays v (ruleList (pointsOf a)) .area ≡ 0) × (forwardSays v (ruleList (pointsOf a)) .edge ≡ 0)
       go accepted n = absurd (n refl)
@@ -93,23 +93,23 @@ module _ (a : List ℤ) (work : ℕ) (out : List ℤ) where
   -- on 0 the output holds the list at its start and is otherwise unchanged
   pub forward-writes : forwardAnswer a work (length out) .answer ≡ 0 → Starts (flatRects (ruleList (pointsOf a))) out (forwardOut a work out)
   unfolding forwardOut
-  forward-writes e = written-done (verdict (forwardRows a work (length out))) (flatRects (ruleList (pointsOf a))) out (forward-accepts-exactly a work (length out) .0 e)
+  forward-writes e = written-done (verdict (forwardChecks a work (length out))) (flatRects (ruleList (pointsOf a))) out (forward-accepts-exactly a work (length out) .0 e)
 
   -- on any refusal it is unchanged
   pub forward-refused-out : forwardAnswer a work (length out) .answer ≢ 0 → forwardOut a work out ≡ out
   unfolding forwardOut
-  forward-refused-out n = written-refused (verdict (forwardRows a work (length out))) (flatRects (ruleList (pointsOf a))) out (λ e. n (forward-says a work (length out) .0 ∙ e))
+  forward-refused-out n = written-refused (verdict (forwardChecks a work (length out))) (flatRects (ruleList (pointsOf a))) out (λ e. n (forward-says a work (length out) .0 ∙ e))
 
   -- its length stays
   pub forward-out-length : length (forwardOut a work out) ≡ length out
   unfolding forwardOut
-  forward-out-length = written-length (verdict (forwardRows a work (length out))) (flatRects (ruleList (pointsOf a))) out (λ e. let c = forward-accepted a work (length out) .0 e in omega (arith, length-flat-rects (ruleList (pointsOf a)), c .room))
+  forward-out-length = written-length (verdict (forwardChecks a work (length out))) (flatRects (ruleList (pointsOf a))) out (λ e. let c = forward-accepted a work (length out) .0 e in omega (arith, length-flat-rects (ruleList (pointsOf a)), c .room))
 
 module _ (a work : List ℤ) (out : ℕ) where
   -- with any refusal but 8 the working array is untouched
   pub forward-refused-work : forwardAnswer a (length work) out .answer ≢ 0 → forwardAnswer a (length work) out .answer ≢ 8 → forwardWork a work out ≡ work
   unfolding forwardWork
-  forward-refused-work n m = go (verdict (forwardRows a (length work) out)) (λ e. n (forward-says a (length work) out .0 ∙ e)) (λ e. m (forward-says a (length work) out .0 ∙ e))
+  forward-refused-work n m = go (verdict (forwardChecks a (length work) out)) (λ e. n (forward-says a (length work) out .0 ∙ e)) (λ e. m (forward-says a (length work) out .0 ∙ e))
     where
       go : (v : Verdict) → numberIn v ≢ 0 → numberIn v ≢ 8 → drained v (length a / 2) work ≡ work
       go accepted n m = absurd (n refl)
@@ -127,9 +127,9 @@ module _ (a work : List ℤ) (out : ℕ) where
   -- with 0 and 8 its first 2n numbers are 0 and the rest unchanged
   pub forward-zeroed-work : (forwardAnswer a (length work) out .answer ≡ 0) ⊎ (forwardAnswer a (length work) out .answer ≡ 8) → Starts (replicate (2 * (length a / 2)) (pos 0)) work (forwardWork a work out)
   unfolding forwardWork
-  forward-zeroed-work h = go (verdict (forwardRows a (length work) out)) (says h)
+  forward-zeroed-work h = go (verdict (forwardChecks a (length work) out)) (says h)
     where
-      says : (forwardAnswer a (length work) out .answer ≡ 0) ⊎ (forwardAnswer a (length work) out .answer ≡ 8) → (verdict (forwardRows a (length work) out) ≡ accepted) ⊎ (numberIn (verdict (forwardRows a (length work) out)) ≡ 8)
+      says : (forwardAnswer a (length work) out .answer ≡ 0) ⊎ (forwardAnswer a (length work) out .answer ≡ 8) → (verdict (forwardChecks a (length work) out) ≡ accepted) ⊎ (numberIn (verdict (forwardChecks a (length work) out)) ≡ 8)
       says (inl e) = inl (forward-accepts-exactly a (length work) out .0 e)
       says (inr e) = inr (sym (forward-says a (length work) out .0) ∙ e)
 
@@ -141,7 +141,7 @@ module _ (a work : List ℤ) (out : ℕ) where
   -- its length stays
   pub forward-work-length : length (forwardWork a work out) ≡ length work
   unfolding forwardWork
-  forward-work-length = go (verdict (forwardRows a (length work) out)) (λ e. forward-accepted a (length work) out .0 e .working) (λ p e. forward-lacks-room a (length work) out p .0 e .0 .working)
+  forward-work-length = go (verdict (forwardChecks a (length work) out)) (λ e. forward-accepted a (length work) out .0 e .working) (λ p e. forward-lacks-room a (length work) out p .0 e .0 .working)
     where
       go : (v : Verdict) → (v ≡ accepted → 2 * (length a / 2) ≤ length work) → ((p : ℕ) → v ≡ refused 8 p → 2 * (length a / 2) ≤ length work) → length (drained v (length a / 2) work) ≡ length work
       go accepted h g = work-length (length a / 2) [] work (omega arith) (h refl)
@@ -157,7 +157,7 @@ module _ (a : List ℤ) (out : ℕ) where
   -- on a refusal the count is 0
   pub backward-refused-rest : backwardAnswer a out .answer ≢ 0 → backwardAnswer a out .count ≡ 0
   unfolding backwardAnswer
-  backward-refused-rest n = go (verdict (backwardRows a out)) n
+  backward-refused-rest n = go (verdict (backwardChecks a out)) n
     where
       go : (v : Verdict) → backwardSays v (backList (rectsOf a)) .answer ≢ 0 → backwardSays v (backList (rectsOf a)) .count ≡ 0
       go accepted n = absurd (n refl)
@@ -167,17 +167,17 @@ module _ (a out : List ℤ) where
   -- on 0 the output holds the points at its start and is otherwise unchanged
   pub backward-writes : backwardAnswer a (length out) .answer ≡ 0 → Starts (flatPoints (backList (rectsOf a))) out (backwardOut a out)
   unfolding backwardOut
-  backward-writes e = written-done (verdict (backwardRows a (length out))) (flatPoints (backList (rectsOf a))) out (backward-accepts-exactly a (length out) .0 e)
+  backward-writes e = written-done (verdict (backwardChecks a (length out))) (flatPoints (backList (rectsOf a))) out (backward-accepts-exactly a (length out) .0 e)
 
   -- on any refusal it is unchanged
   pub backward-refused-out : backwardAnswer a (length out) .answer ≢ 0 → backwardOut a out ≡ out
   unfolding backwardOut
-  backward-refused-out n = written-refused (verdict (backwardRows a (length out))) (flatPoints (backList (rectsOf a))) out (λ e. n (backward-says a (length out) .0 ∙ e))
+  backward-refused-out n = written-refused (verdict (backwardChecks a (length out))) (flatPoints (backList (rectsOf a))) out (λ e. n (backward-says a (length out) .0 ∙ e))
 
   -- its length stays
   pub backward-out-length : length (backwardOut a out) ≡ length out
   unfolding backwardOut
-  backward-out-length = written-length (verdict (backwardRows a (length out))) (flatPoints (backList (rectsOf a))) out (λ e. let c = backward-accepted a (length out) .0 e in omega (arith, length-flat-points (backList (rectsOf a)), c .room))
+  backward-out-length = written-length (verdict (backwardChecks a (length out))) (flatPoints (backList (rectsOf a))) out (λ e. let c = backward-accepted a (length out) .0 e in omega (arith, length-flat-points (backList (rectsOf a)), c .room))
 
 -- ---- A step
 
@@ -189,14 +189,14 @@ module _ (work : List ℤ) (n : ℕ) where
   -- on a refusal the working array is unchanged, and there are no other values
   pub step-refused-work : stepNumber (stepAnswer work n) ≢ 0 → (stepWork work n ≡ work) × (stepValues (stepAnswer work n) ≡ [])
   unfolding stepAnswer stepWork
-  step-refused-work m = go (verdict (stepRows work n)) (step (take n (pointsOf work))) m
+  step-refused-work m = go (verdict (stepChecks work n)) (step (take n (pointsOf work))) m
     where
       go : (v : Verdict) (t : Taken) → stepNumber (stepSays v t) ≢ 0 → (stepLeaves v t n work ≡ work) × (stepValues (stepSays v t) ≡ [])
       go accepted t m = absurd (m refl)
       go (refused k p) t m = (refl, refl)
 
   -- an accepted step leaves no more points than it was given
-  step-few : verdict (stepRows work n) ≡ accepted → length (step (take n (pointsOf work)) .left) ≤ n
+  step-few : verdict (stepChecks work n) ≡ accepted → length (step (take n (pointsOf work)) .left) ≤ n
   step-few v = let c = step-accepted work n .0 v in go (take n (pointsOf work)) (c .points) (omega (arith, length-take n (pointsOf work), length-points work, c .working)) (c .some-left)
     where
       go : (ps : List Point) → Accepted ps → length ps ≡ n → 1 ≤ n → length (step ps .left) ≤ n
@@ -214,7 +214,7 @@ module _ (work : List ℤ) (n : ℕ) where
   -- its length stays
   pub step-work-length : length (stepWork work n) ≡ length work
   unfolding stepWork
-  step-work-length = go (verdict (stepRows work n)) (step (take n (pointsOf work))) (λ e. (step-few e, step-accepted work n .0 e .working))
+  step-work-length = go (verdict (stepChecks work n)) (step (take n (pointsOf work))) (λ e. (step-few e, step-accepted work n .0 e .working))
     where
       go : (v : Verdict) (t : Taken) → (v ≡ accepted → (length (t .left) ≤ n) × (2 * n ≤ length work)) → length (stepLeaves v t n work) ≡ length work
       go accepted t h = work-length n (t .left) work (h refl .0) (h refl .1)

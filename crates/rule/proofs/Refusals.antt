@@ -16,102 +16,102 @@ use Rattle.plane.proofs.Bools.{not-false}
 use Rattle.plane.proofs.Places.{at-every-place, all-pass, rows-even, columns-even, once-exactly}
 use Rattle.rule.specs.Rule.{Taken, step, ruleList}
 use Rattle.rule.specs.Back.{backList}
-use Rattle.rule.specs.Table.{Row, numberOf, FirstGiven, LENGTH, MANY, WORK, RANGE, RANGE-rects, ROOM, FLAT, pointRows, forwardRows, backwardRows, stepRows, Verdict, accepted, refused, verdict, Accepted, AcceptedRects}
+use Rattle.rule.specs.Table.{Check, numberOf, FirstGiven, LENGTH, MANY, WORK, RANGE, RANGE-rects, ROOM, FLAT, pointChecks, forwardChecks, backwardChecks, stepChecks, Verdict, accepted, refused, verdict, Accepted, AcceptedRects}
 use Rattle.rule.proofs.Verdicts.{Clear, AllClear, accepted-clear, clear-append, Numbers, numberIn, placeIn, answer-refuses, answer-accepts, lacks-room}
 use Rattle.rule.specs.Answers.{forwardSays, forwardAnswer, backwardSays, backwardAnswer, stepSays, stepAnswer, stepNumber, stepPlace}
 
 -- ---- The orders
 
 -- forward: 1, 2, 3, 4, 5, 6, 7, 8
-pub forward-order : (a : List ℤ) (work out : ℕ) → map numberOf (forwardRows a work out) ≡ 1 ∷ 2 ∷ 3 ∷ 4 ∷ 5 ∷ 6 ∷ 7 ∷ 8 ∷ []
-unfolding forwardRows pointRows numberOf
+pub forward-order : (a : List ℤ) (work out : ℕ) → map numberOf (forwardChecks a work out) ≡ 1 ∷ 2 ∷ 3 ∷ 4 ∷ 5 ∷ 6 ∷ 7 ∷ 8 ∷ []
+unfolding forwardChecks pointChecks numberOf
 forward-order a work out = refl
 
 -- backward: 1, 2, 9, 4, 8
-pub backward-order : (a : List ℤ) (out : ℕ) → map numberOf (backwardRows a out) ≡ 1 ∷ 2 ∷ 9 ∷ 4 ∷ 8 ∷ []
-unfolding backwardRows numberOf
+pub backward-order : (a : List ℤ) (out : ℕ) → map numberOf (backwardChecks a out) ≡ 1 ∷ 2 ∷ 9 ∷ 4 ∷ 8 ∷ []
+unfolding backwardChecks numberOf
 backward-order a out = refl
 
 -- a step: 2, 3, 10, 4, 5, 6, 7
-pub step-order : (work : List ℤ) (n : ℕ) → map numberOf (stepRows work n) ≡ 2 ∷ 3 ∷ 10 ∷ 4 ∷ 5 ∷ 6 ∷ 7 ∷ []
-unfolding stepRows pointRows numberOf
+pub step-order : (work : List ℤ) (n : ℕ) → map numberOf (stepChecks work n) ≡ 2 ∷ 3 ∷ 10 ∷ 4 ∷ 5 ∷ 6 ∷ 7 ∷ []
+unfolding stepChecks pointChecks numberOf
 step-order work n = refl
 
 -- ---- Answers
 
-forward-numbers : (a : List ℤ) (work out : ℕ) → Numbers (λ k. (1 ≤ k) × (k ≤ 8)) (forwardRows a work out)
-unfolding forwardRows pointRows numberOf
+forward-numbers : (a : List ℤ) (work out : ℕ) → Numbers (λ k. (1 ≤ k) × (k ≤ 8)) (forwardChecks a work out)
+unfolding forwardChecks pointChecks numberOf
 forward-numbers a work out = omega arith
 
-backward-numbers : (a : List ℤ) (out : ℕ) → Numbers (λ k. (1 ≤ k) × (k ≤ 9)) (backwardRows a out)
-unfolding backwardRows numberOf
+backward-numbers : (a : List ℤ) (out : ℕ) → Numbers (λ k. (1 ≤ k) × (k ≤ 9)) (backwardChecks a out)
+unfolding backwardChecks numberOf
 backward-numbers a out = omega arith
 
-step-numbers : (work : List ℤ) (n : ℕ) → Numbers (λ k. (1 ≤ k) × (k ≤ 10)) (stepRows work n)
-unfolding stepRows pointRows numberOf
+step-numbers : (work : List ℤ) (n : ℕ) → Numbers (λ k. (1 ≤ k) × (k ≤ 10)) (stepChecks work n)
+unfolding stepChecks pointChecks numberOf
 step-numbers work n = omega arith
 
 -- each answer has its verdict's number and place
-pub forward-says : (a : List ℤ) (work out : ℕ) → (forwardAnswer a work out .answer ≡ numberIn (verdict (forwardRows a work out))) × (forwardAnswer a work out .place ≡ placeIn (verdict (forwardRows a work out)))
+pub forward-says : (a : List ℤ) (work out : ℕ) → (forwardAnswer a work out .answer ≡ numberIn (verdict (forwardChecks a work out))) × (forwardAnswer a work out .place ≡ placeIn (verdict (forwardChecks a work out)))
 unfolding forwardAnswer
-forward-says a work out = go (verdict (forwardRows a work out)) (ruleList (pointsOf a))
+forward-says a work out = go (verdict (forwardChecks a work out)) (ruleList (pointsOf a))
   where
     go : (v : Verdict) (rs : List Rect) → (forwardSays v rs .answer ≡ numberIn v) × (forwardSays v rs .place ≡ placeIn v)
     go accepted rs = (refl, refl)
     go (refused k p) rs = (refl, refl)
 
-pub backward-says : (a : List ℤ) (out : ℕ) → (backwardAnswer a out .answer ≡ numberIn (verdict (backwardRows a out))) × (backwardAnswer a out .place ≡ placeIn (verdict (backwardRows a out)))
+pub backward-says : (a : List ℤ) (out : ℕ) → (backwardAnswer a out .answer ≡ numberIn (verdict (backwardChecks a out))) × (backwardAnswer a out .place ≡ placeIn (verdict (backwardChecks a out)))
 unfolding backwardAnswer
-backward-says a out = go (verdict (backwardRows a out)) (backList (rectsOf a))
+backward-says a out = go (verdict (backwardChecks a out)) (backList (rectsOf a))
   where
     go : (v : Verdict) (ps : List Point) → (backwardSays v ps .answer ≡ numberIn v) × (backwardSays v ps .place ≡ placeIn v)
     go accepted ps = (refl, refl)
     go (refused k p) ps = (refl, refl)
 
-pub step-says : (work : List ℤ) (n : ℕ) → (stepNumber (stepAnswer work n) ≡ numberIn (verdict (stepRows work n))) × (stepPlace (stepAnswer work n) ≡ placeIn (verdict (stepRows work n)))
+pub step-says : (work : List ℤ) (n : ℕ) → (stepNumber (stepAnswer work n) ≡ numberIn (verdict (stepChecks work n))) × (stepPlace (stepAnswer work n) ≡ placeIn (verdict (stepChecks work n)))
 unfolding stepAnswer
-step-says work n = go (verdict (stepRows work n)) (step (take n (pointsOf work)))
+step-says work n = go (verdict (stepChecks work n)) (step (take n (pointsOf work)))
   where
     go : (v : Verdict) (t : Taken) → (stepNumber (stepSays v t) ≡ numberIn v) × (stepPlace (stepSays v t) ≡ placeIn v)
     go accepted t = (refl, refl)
     go (refused k p) t = (refl, refl)
 
--- forward answers a refusal's number and place exactly when that row is the first given, at that place
-pub forward-refuses : (a : List ℤ) (work out k p : ℕ) → ((forwardAnswer a work out .answer ≡ suc k) × (forwardAnswer a work out .place ≡ p)) ↔ FirstGiven (forwardRows a work out) (suc k) p
-forward-refuses a work out k p = rw (forward-says a work out .0, forward-says a work out .1) (answer-refuses (forwardRows a work out) k p)
+-- forward answers a refusal's number and place exactly when that row of the table is the first given, at that place
+pub forward-refuses : (a : List ℤ) (work out k p : ℕ) → ((forwardAnswer a work out .answer ≡ suc k) × (forwardAnswer a work out .place ≡ p)) ↔ FirstGiven (forwardChecks a work out) (suc k) p
+forward-refuses a work out k p = rw (forward-says a work out .0, forward-says a work out .1) (answer-refuses (forwardChecks a work out) k p)
 
 -- so does backward
-pub backward-refuses : (a : List ℤ) (out k p : ℕ) → ((backwardAnswer a out .answer ≡ suc k) × (backwardAnswer a out .place ≡ p)) ↔ FirstGiven (backwardRows a out) (suc k) p
-backward-refuses a out k p = rw (backward-says a out .0, backward-says a out .1) (answer-refuses (backwardRows a out) k p)
+pub backward-refuses : (a : List ℤ) (out k p : ℕ) → ((backwardAnswer a out .answer ≡ suc k) × (backwardAnswer a out .place ≡ p)) ↔ FirstGiven (backwardChecks a out) (suc k) p
+backward-refuses a out k p = rw (backward-says a out .0, backward-says a out .1) (answer-refuses (backwardChecks a out) k p)
 
 -- so does a step
-pub step-refuses : (work : List ℤ) (n k p : ℕ) → ((stepNumber (stepAnswer work n) ≡ suc k) × (stepPlace (stepAnswer work n) ≡ p)) ↔ FirstGiven (stepRows work n) (suc k) p
-step-refuses work n k p = rw (step-says work n .0, step-says work n .1) (answer-refuses (stepRows work n) k p)
+pub step-refuses : (work : List ℤ) (n k p : ℕ) → ((stepNumber (stepAnswer work n) ≡ suc k) × (stepPlace (stepAnswer work n) ≡ p)) ↔ FirstGiven (stepChecks work n) (suc k) p
+step-refuses work n k p = rw (step-says work n .0, step-says work n .1) (answer-refuses (stepChecks work n) k p)
 
--- forward answers 0 exactly when its rows accept
-pub forward-accepts-exactly : (a : List ℤ) (work out : ℕ) → (forwardAnswer a work out .answer ≡ 0) ↔ (verdict (forwardRows a work out) ≡ accepted)
-forward-accepts-exactly a work out = rw (forward-says a work out .0) (answer-accepts (forwardRows a work out) 8 (forward-numbers a work out))
+-- forward answers 0 exactly when its checks accept
+pub forward-accepts-exactly : (a : List ℤ) (work out : ℕ) → (forwardAnswer a work out .answer ≡ 0) ↔ (verdict (forwardChecks a work out) ≡ accepted)
+forward-accepts-exactly a work out = rw (forward-says a work out .0) (answer-accepts (forwardChecks a work out) 8 (forward-numbers a work out))
 
 -- so does backward
-pub backward-accepts-exactly : (a : List ℤ) (out : ℕ) → (backwardAnswer a out .answer ≡ 0) ↔ (verdict (backwardRows a out) ≡ accepted)
-backward-accepts-exactly a out = rw (backward-says a out .0) (answer-accepts (backwardRows a out) 9 (backward-numbers a out))
+pub backward-accepts-exactly : (a : List ℤ) (out : ℕ) → (backwardAnswer a out .answer ≡ 0) ↔ (verdict (backwardChecks a out) ≡ accepted)
+backward-accepts-exactly a out = rw (backward-says a out .0) (answer-accepts (backwardChecks a out) 9 (backward-numbers a out))
 
 -- so does a step
-pub step-accepts-exactly : (work : List ℤ) (n : ℕ) → (stepNumber (stepAnswer work n) ≡ 0) ↔ (verdict (stepRows work n) ≡ accepted)
-step-accepts-exactly work n = rw (step-says work n .0) (answer-accepts (stepRows work n) 10 (step-numbers work n))
+pub step-accepts-exactly : (work : List ℤ) (n : ℕ) → (stepNumber (stepAnswer work n) ≡ 0) ↔ (verdict (stepChecks work n) ≡ accepted)
+step-accepts-exactly work n = rw (step-says work n .0) (answer-accepts (stepChecks work n) 10 (step-numbers work n))
 
 -- ---- What is accepted
 
-points-clear : (ps : List Point) → AllClear (pointRows ps) ↔ Accepted ps
-unfolding pointRows
+points-clear : (ps : List Point) → AllClear (pointChecks ps) ↔ Accepted ps
+unfolding pointChecks
 points-clear ps = (λ h. record { range = range-at .0 (h .0); once = once-exactly ps .0 (h .1 .0); rows = rows-even ps .0 (h .1 .1 .0); columns = columns-even ps .0 (h .1 .1 .1 .0) }, λ c. (range-at .1 (c .range), (once-exactly ps .1 (c .once), (rows-even ps .1 (c .rows), (columns-even ps .1 (c .columns), tt)))))
   where
     range-at : Clear (RANGE ps) ↔ ((q : Point) → In q ps → pointInRange q ≡ true)
     range-at = all-pass pointInRange ps origin
 
--- the rows for points accept exactly the points in range, none twice, with every row and every column even
-pub accepted-points : (ps : List Point) → (verdict (pointRows ps) ≡ accepted) ↔ Accepted ps
-accepted-points ps = Iff·trans (accepted-clear (pointRows ps)) (points-clear ps)
+-- the checks of points accept exactly the points in range, none twice, with every row and every column even
+pub accepted-points : (ps : List Point) → (verdict (pointChecks ps) ≡ accepted) ↔ Accepted ps
+accepted-points ps = Iff·trans (accepted-clear (pointChecks ps)) (points-clear ps)
 
 rects-clear : (rs : List Rect) → AllClear (FLAT rs ∷ RANGE-rects rs ∷ []) ↔ AcceptedRects rs
 rects-clear rs = (λ h. record { solid = solid-at .0 (h .0); range = range-at .0 (h .1 .0) }, λ c. (solid-at .1 (c .solid), (range-at .1 (c .range), tt)))
@@ -122,7 +122,7 @@ rects-clear rs = (λ h. record { solid = solid-at .0 (h .0); range = range-at .0
     range-at : Clear (RANGE-rects rs) ↔ ((r : Rect) → In r rs → rectInRange r ≡ true)
     range-at = all-pass rectInRange rs _
 
--- the rows for rectangles accept exactly the rectangles in range with W and H at least 1
+-- the checks of rectangles accept exactly the rectangles in range with W and H at least 1
 pub accepted-rects : (rs : List Rect) → (verdict (FLAT rs ∷ RANGE-rects rs ∷ []) ≡ accepted) ↔ AcceptedRects rs
 accepted-rects rs = Iff·trans (accepted-clear (FLAT rs ∷ RANGE-rects rs ∷ [])) (rects-clear rs)
 
@@ -139,21 +139,21 @@ pub record ForwardAccepted (a : List ℤ) (work out : ℕ) : Type 0 where
   pub points : Accepted (pointsOf a)
   pub room : length (ruleList (pointsOf a)) ≤ out / 4
 
--- forward's rows accept exactly that
-pub forward-accepted : (a : List ℤ) (work out : ℕ) → (verdict (forwardRows a work out) ≡ accepted) ↔ ForwardAccepted a work out
-unfolding forwardRows
-forward-accepted a work out = Iff·trans (accepted-clear (forwardRows a work out)) (go, back)
+-- forward's checks accept exactly that
+pub forward-accepted : (a : List ℤ) (work out : ℕ) → (verdict (forwardChecks a work out) ≡ accepted) ↔ ForwardAccepted a work out
+unfolding forwardChecks
+forward-accepted a work out = Iff·trans (accepted-clear (forwardChecks a work out)) (go, back)
   where
-    last : List Row
+    last : List Check
     last = ROOM (length (ruleList (pointsOf a))) (out / 4) ∷ []
 
-    go : AllClear (forwardRows a work out) → ForwardAccepted a work out
+    go : AllClear (forwardChecks a work out) → ForwardAccepted a work out
     go h =
-        let t = clear-append (pointRows (pointsOf a)) last .0 (h .1 .1 .1) in
+        let t = clear-append (pointChecks (pointsOf a)) last .0 (h .1 .1 .1) in
         record { even = multiple-exactly (length a % 2) .0 (h .0); few = ltb-false 4096 (length a / 2) (h .1 .0); working = ltb-false work (2 * (length a / 2)) (h .1 .1 .0); points = points-clear (pointsOf a) .0 (t .0); room = t .1 .0 }
 
-    back : ForwardAccepted a work out → AllClear (forwardRows a work out)
-    back c = (multiple-exactly (length a % 2) .1 (c .even), (le-ltb 4096 (length a / 2) (c .few), (le-ltb work (2 * (length a / 2)) (c .working), clear-append (pointRows (pointsOf a)) last .1 (points-clear (pointsOf a) .1 (c .points), (c .room, tt)))))
+    back : ForwardAccepted a work out → AllClear (forwardChecks a work out)
+    back c = (multiple-exactly (length a % 2) .1 (c .even), (le-ltb 4096 (length a / 2) (c .few), (le-ltb work (2 * (length a / 2)) (c .working), clear-append (pointChecks (pointsOf a)) last .1 (points-clear (pointsOf a) .1 (c .points), (c .room, tt)))))
 
 -- what backward accepts, of an array and the output's length
 pub record BackwardAccepted (a : List ℤ) (out : ℕ) : Type 0 where
@@ -162,15 +162,15 @@ pub record BackwardAccepted (a : List ℤ) (out : ℕ) : Type 0 where
   pub rects : AcceptedRects (rectsOf a)
   pub room : length (backList (rectsOf a)) ≤ out / 2
 
--- backward's rows accept exactly that
-pub backward-accepted : (a : List ℤ) (out : ℕ) → (verdict (backwardRows a out) ≡ accepted) ↔ BackwardAccepted a out
-unfolding backwardRows
-backward-accepted a out = Iff·trans (accepted-clear (backwardRows a out)) (go, back)
+-- backward's checks accept exactly that
+pub backward-accepted : (a : List ℤ) (out : ℕ) → (verdict (backwardChecks a out) ≡ accepted) ↔ BackwardAccepted a out
+unfolding backwardChecks
+backward-accepted a out = Iff·trans (accepted-clear (backwardChecks a out)) (go, back)
   where
-    go : AllClear (backwardRows a out) → BackwardAccepted a out
+    go : AllClear (backwardChecks a out) → BackwardAccepted a out
     go h = record { even = multiple-exactly (length a % 4) .0 (h .0); few = ltb-false 16384 (length a / 4) (h .1 .0); rects = rects-clear (rectsOf a) .0 (h .1 .1 .0, (h .1 .1 .1 .0, tt)); room = h .1 .1 .1 .1 .0 }
 
-    back : BackwardAccepted a out → AllClear (backwardRows a out)
+    back : BackwardAccepted a out → AllClear (backwardChecks a out)
     back c =
         let t = rects-clear (rectsOf a) .1 (c .rects) in
         (multiple-exactly (length a % 4) .1 (c .even), (le-ltb 16384 (length a / 4) (c .few), (t .0, (t .1 .0, (c .room, tt)))))
@@ -182,30 +182,30 @@ pub record StepAccepted (work : List ℤ) (n : ℕ) : Type 0 where
   pub some-left : 0 < n
   pub points : Accepted (take n (pointsOf work))
 
--- a step's rows accept exactly that
-pub step-accepted : (work : List ℤ) (n : ℕ) → (verdict (stepRows work n) ≡ accepted) ↔ StepAccepted work n
-unfolding stepRows
-step-accepted work n = Iff·trans (accepted-clear (stepRows work n)) (go, back)
+-- a step's checks accept exactly that
+pub step-accepted : (work : List ℤ) (n : ℕ) → (verdict (stepChecks work n) ≡ accepted) ↔ StepAccepted work n
+unfolding stepChecks
+step-accepted work n = Iff·trans (accepted-clear (stepChecks work n)) (go, back)
   where
     ps : List Point
     ps = take n (pointsOf work)
 
-    go : AllClear (stepRows work n) → StepAccepted work n
+    go : AllClear (stepChecks work n) → StepAccepted work n
     go h = record { few = ltb-false 4096 n (h .0); working = ltb-false (length work) (2 * n) (h .1 .0); some-left = omega (arith, eqb-false n 0 (h .1 .1 .0)); points = points-clear ps .0 (h .1 .1 .1) }
 
-    back : StepAccepted work n → AllClear (stepRows work n)
+    back : StepAccepted work n → AllClear (stepChecks work n)
     back c = (le-ltb 4096 n (c .few), (le-ltb (length work) (2 * n) (c .working), (ne-eqb n 0 (λ e. omega arith), points-clear ps .1 (c .points))))
 
 -- ---- Room
 
 -- forward lacks room, at p, exactly when p is the length of the list, the output has room for fewer, and with room for p
 -- it would accept
-pub forward-lacks-room : (a : List ℤ) (work out p : ℕ) → (verdict (forwardRows a work out) ≡ refused 8 p) ↔ (ForwardAccepted a work (4 * p) × (p ≡ length (ruleList (pointsOf a))) × (out / 4 < p))
-unfolding forwardRows pointRows numberOf
-forward-lacks-room a work out p = lacks-room (LENGTH (length a) 2 ∷ MANY 4096 (length a / 2) ∷ WORK work (length a / 2) ∷ pointRows (pointsOf a)) 8 _ (out / 4) (4 * p / 4) p (omega arith) (omega arith) (forward-accepted a work (4 * p))
+pub forward-lacks-room : (a : List ℤ) (work out p : ℕ) → (verdict (forwardChecks a work out) ≡ refused 8 p) ↔ (ForwardAccepted a work (4 * p) × (p ≡ length (ruleList (pointsOf a))) × (out / 4 < p))
+unfolding forwardChecks pointChecks numberOf
+forward-lacks-room a work out p = lacks-room (LENGTH (length a) 2 ∷ MANY 4096 (length a / 2) ∷ WORK work (length a / 2) ∷ pointChecks (pointsOf a)) 8 _ (out / 4) (4 * p / 4) p (omega arith) (omega arith) (forward-accepted a work (4 * p))
 
 -- backward lacks room, at p, exactly when p is the count of points, the output has room for fewer, and with room for p it
 -- would accept
-pub backward-lacks-room : (a : List ℤ) (out p : ℕ) → (verdict (backwardRows a out) ≡ refused 8 p) ↔ (BackwardAccepted a (2 * p) × (p ≡ length (backList (rectsOf a))) × (out / 2 < p))
-unfolding backwardRows numberOf
+pub backward-lacks-room : (a : List ℤ) (out p : ℕ) → (verdict (backwardChecks a out) ≡ refused 8 p) ↔ (BackwardAccepted a (2 * p) × (p ≡ length (backList (rectsOf a))) × (out / 2 < p))
+unfolding backwardChecks numberOf
 backward-lacks-room a out p = lacks-room (LENGTH (length a) 4 ∷ MANY 16384 (length a / 4) ∷ FLAT (rectsOf a) ∷ RANGE-rects (rectsOf a) ∷ []) 8 _ (out / 2) (2 * p / 2) p (omega arith) (omega arith) (backward-accepted a (2 * p))

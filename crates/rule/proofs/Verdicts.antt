@@ -1,4 +1,4 @@
--- The table of refusals, read exactly: where a row is given, and what the verdict over rows in order says of them, both ways.
+-- The table of refusals, read exactly: where a check is given, and what the verdict over checks in order says of them, both ways.
 use mathlib.Core.Path.{_≡_, refl, sym, ap, subst}
 use mathlib.Core.Logic.{_↔_, _≢_, Iff·trans}
 use Prim.Native.Nat.{ℕ, zero, suc, _+_, _≤_, _<_}
@@ -9,24 +9,24 @@ use mathlib.Core.Option.{Option, none, some}
 use lib.Dec.{ltb}
 use borrow.Author.Tests.{ltb-true, ltb-false}
 use Rattle.plane.proofs.Bools.{clash, by-no, cond-case}
-use Rattle.rule.specs.Table.{Row, whole, each, needs, numberOf, Given, by-whole, by-item, by-need, FirstGiven, this, later, firstFrom, placeGiven, Verdict, accepted, refused, orLater, verdict}
+use Rattle.rule.specs.Table.{Check, whole, each, needs, numberOf, Given, by-whole, by-item, by-need, FirstGiven, this, later, firstFrom, placeGiven, Verdict, accepted, refused, orLater, verdict}
 
--- ---- A row alone
+-- ---- A check alone
 
--- nothing of the row offends
-abbrev pub Clear : Row → Type 0
+-- nothing of the check offends
+abbrev pub Clear : Check → Type 0
 Clear (whole k t) = t ≡ false
 Clear (each k n t) = (i : ℕ) → i < n → t i ≡ false
 Clear (needs k n r) = n ≤ r
 
--- a clear row is given nowhere
-clear-given : {r : Row} {p : ℕ} → Clear r → Given r p → ⊥
+-- a clear check is given nowhere
+clear-given : {r : Check} {p : ℕ} → Clear r → Given r p → ⊥
 clear-given c (by-whole e) = clash e c
 clear-given c (by-item i h e f) = clash e (c i h)
 clear-given c (by-need h) = omega arith
 
--- a row is given at one place
-pub given-unique : {r : Row} {p q : ℕ} → Given r p → Given r q → p ≡ q
+-- a check is given at one place
+pub given-unique : {r : Check} {p q : ℕ} → Given r p → Given r q → p ≡ q
 given-unique (by-whole d) (by-whole e) = refl
 given-unique (by-item i h e f) (by-item j k d g) =
     let a : ¬ (i < j) = λ l. clash e (g i l) in
@@ -34,16 +34,16 @@ given-unique (by-item i h e f) (by-item j k d g) =
     omega arith
 given-unique (by-need h) (by-need k) = refl
 
--- what the computed place says of a row
-data Placed (r : Row) : Option ℕ → Type 0 where
+-- what the computed place says of a check
+data Placed (r : Check) : Option ℕ → Type 0 where
   at : {p : ℕ} → Given r p → Placed r (some p)
   nowhere : Clear r → Placed r none
 
-row-placed : (r : Row) → Placed r (placeGiven r)
+check-placed : (r : Check) → Placed r (placeGiven r)
 unfolding placeGiven firstFrom
-row-placed (whole k true) = at (by-whole refl)
-row-placed (whole k false) = nowhere refl
-row-placed (each k n t) = from 0 n (omega arith) (λ j h. absurd (omega arith))
+check-placed (whole k true) = at (by-whole refl)
+check-placed (whole k false) = nowhere refl
+check-placed (each k n t) = from 0 n (omega arith) (λ j h. absurd (omega arith))
   where
     from : (i m : ℕ) → i + m ≡ n → ((j : ℕ) → j < i → t j ≡ false) → Placed (each k n t) (firstFrom i m t)
     from i zero e f = nowhere (λ j h. f j (omega arith))
@@ -51,11 +51,11 @@ row-placed (each k n t) = from 0 n (omega arith) (λ j h. absurd (omega arith))
         let a : ¬ (j < i) = λ l. clash c (f j l) in
         let b : j ≡ i = omega arith in
         clash (rw b at c) d)))
-row-placed (needs k n r) = cond-case (Placed (needs k n r)) (ltb r n) (λ e. at (by-need (ltb-true r n e))) (λ e. nowhere (ltb-false r n e))
+check-placed (needs k n r) = cond-case (Placed (needs k n r)) (ltb r n) (λ e. at (by-need (ltb-true r n e))) (λ e. nowhere (ltb-false r n e))
 
--- the computed place is just where the row is given
-pub place-given : (r : Row) (p : ℕ) → (placeGiven r ≡ some p) ↔ Given r p
-place-given r p = (λ e. go (subst (Placed r) e (row-placed r)), back (row-placed r))
+-- the computed place is just where the check is given
+pub place-given : (r : Check) (p : ℕ) → (placeGiven r ≡ some p) ↔ Given r p
+place-given r p = (λ e. go (subst (Placed r) e (check-placed r)), back (check-placed r))
   where
     go : Placed r (some p) → Given r p
     go (at g) = g
@@ -64,16 +64,16 @@ place-given r p = (λ e. go (subst (Placed r) e (row-placed r)), back (row-place
     back (at h) g = ap some (given-unique h g)
     back (nowhere c) g = absurd (clear-given c g)
 
--- nothing of a row offends exactly when it is given nowhere
-pub clear-exactly : (r : Row) → Clear r ↔ ((p : ℕ) → Given r p → ⊥)
-clear-exactly r = (λ c p g. clear-given c g, back (row-placed r))
+-- nothing of a check offends exactly when it is given nowhere
+pub clear-exactly : (r : Check) → Clear r ↔ ((p : ℕ) → Given r p → ⊥)
+clear-exactly r = (λ c p g. clear-given c g, back (check-placed r))
   where
     back : {o : Option ℕ} → Placed r o → ((p : ℕ) → Given r p → ⊥) → Clear r
     back (at {p} g) n = absurd (n p g)
     back (nowhere c) n = c
 
-place-clear : (r : Row) → (placeGiven r ≡ none) ↔ Clear r
-place-clear r = (λ e. go (subst (Placed r) e (row-placed r)), back (row-placed r))
+place-clear : (r : Check) → (placeGiven r ≡ none) ↔ Clear r
+place-clear r = (λ e. go (subst (Placed r) e (check-placed r)), back (check-placed r))
   where
     go : Placed r none → Clear r
     go (nowhere c) = c
@@ -82,87 +82,87 @@ place-clear r = (λ e. go (subst (Placed r) e (row-placed r)), back (row-placed 
     back (at g) c = absurd (clear-given c g)
     back (nowhere d) c = refl
 
--- no place is computed exactly when the row is given nowhere
-pub not-given : (r : Row) → (placeGiven r ≡ none) ↔ ((p : ℕ) → Given r p → ⊥)
+-- no place is computed exactly when the check is given nowhere
+pub not-given : (r : Check) → (placeGiven r ≡ none) ↔ ((p : ℕ) → Given r p → ⊥)
 not-given r = Iff·trans (place-clear r) (clear-exactly r)
 
 -- ---- Rows in order
 
--- nothing of any row offends
-abbrev pub AllClear : List Row → Type 0
+-- nothing of any check offends
+abbrev pub AllClear : List Check → Type 0
 AllClear [] = Unit
-AllClear (r ∷ rows) = Clear r × AllClear rows
+AllClear (r ∷ checks) = Clear r × AllClear checks
 
--- what a verdict says of the rows
-data Read (rows : List Row) : Verdict → Type 0 where
-  passes : AllClear rows → Read rows accepted
-  refuses : {k p : ℕ} → FirstGiven rows k p → Read rows (refused k p)
+-- what a verdict says of the checks
+data Read (checks : List Check) : Verdict → Type 0 where
+  passes : AllClear checks → Read checks accepted
+  refuses : {k p : ℕ} → FirstGiven checks k p → Read checks (refused k p)
 
-rows-read : (rows : List Row) → Read rows (verdict rows)
+checks-read : (checks : List Check) → Read checks (verdict checks)
 unfolding verdict
-rows-read [] = passes tt
-rows-read (r ∷ rows) = go (row-placed r) (rows-read rows)
+checks-read [] = passes tt
+checks-read (r ∷ checks) = go (check-placed r) (checks-read checks)
   where
-    go : {o : Option ℕ} {v : Verdict} → Placed r o → Read rows v → Read (r ∷ rows) (orLater (numberOf r) o v)
+    go : {o : Option ℕ} {v : Verdict} → Placed r o → Read checks v → Read (r ∷ checks) (orLater (numberOf r) o v)
     go (at g) w = refuses (this g)
     go (nowhere c) (passes h) = passes (c, h)
     go (nowhere c) (refuses f) = refuses (later (λ p. clear-given c) f)
 
-verdict-first : {rows : List Row} {k p : ℕ} → FirstGiven rows k p → verdict rows ≡ refused k p
+verdict-first : {checks : List Check} {k p : ℕ} → FirstGiven checks k p → verdict checks ≡ refused k p
 unfolding verdict
-verdict-first (this {r} {p = q} g) = rw (place-given r q .1 g)
-verdict-first (later {r} n f) = rw (not-given r .1 n) (verdict-first f)
+verdict-first (this {c} {p = q} g) = rw (place-given c q .1 g)
+verdict-first (later {c} n f) = rw (not-given c .1 n) (verdict-first f)
 
--- the answer is number k at place p exactly when row k is given at p and no earlier row is given
-pub refused-exactly : (rows : List Row) (k p : ℕ) → (verdict rows ≡ refused k p) ↔ FirstGiven rows k p
-refused-exactly rows k p = (λ e. go (subst (Read rows) e (rows-read rows)), verdict-first)
+-- the answer is number k at place p exactly when row k of the table is given at p and no earlier row of the order is given
+pub refused-exactly : (checks : List Check) (k p : ℕ) → (verdict checks ≡ refused k p) ↔ FirstGiven checks k p
+refused-exactly checks k p = (λ e. go (subst (Read checks) e (checks-read checks)), verdict-first)
   where
-    go : Read rows (refused k p) → FirstGiven rows k p
+    go : Read checks (refused k p) → FirstGiven checks k p
     go (refuses f) = f
 
-verdict-clear : (rows : List Row) → AllClear rows → verdict rows ≡ accepted
+verdict-clear : (checks : List Check) → AllClear checks → verdict checks ≡ accepted
 unfolding verdict
 verdict-clear [] h = refl
-verdict-clear (r ∷ rows) h = rw (place-clear r .1 (h .0)) (verdict-clear rows (h .1))
+verdict-clear (r ∷ checks) h = rw (place-clear r .1 (h .0)) (verdict-clear checks (h .1))
 
--- the input is accepted exactly when nothing of any row offends
-pub accepted-clear : (rows : List Row) → (verdict rows ≡ accepted) ↔ AllClear rows
-accepted-clear rows = (λ e. go (subst (Read rows) e (rows-read rows)), verdict-clear rows)
+-- the input is accepted exactly when nothing of any check offends
+pub accepted-clear : (checks : List Check) → (verdict checks ≡ accepted) ↔ AllClear checks
+accepted-clear checks = (λ e. go (subst (Read checks) e (checks-read checks)), verdict-clear checks)
   where
-    go : Read rows accepted → AllClear rows
+    go : Read checks accepted → AllClear checks
     go (passes h) = h
 
-clear-in : (rows : List Row) → AllClear rows → (r : Row) → In r rows → (p : ℕ) → Given r p → ⊥
-clear-in (s ∷ rows) h r (head e) p g = clear-given (h .0) (subst (λ z. Given z p) e g)
-clear-in (s ∷ rows) h r (tail m) p g = clear-in rows (h .1) r m p g
+clear-in : (checks : List Check) → AllClear checks → (r : Check) → In r checks → (p : ℕ) → Given r p → ⊥
+clear-in (s ∷ checks) h r (head e) p g = clear-given (h .0) (subst (λ z. Given z p) e g)
+clear-in (s ∷ checks) h r (tail m) p g = clear-in checks (h .1) r m p g
 
-in-clear : (rows : List Row) → ((r : Row) → In r rows → (p : ℕ) → Given r p → ⊥) → AllClear rows
+in-clear : (checks : List Check) → ((r : Check) → In r checks → (p : ℕ) → Given r p → ⊥) → AllClear checks
 in-clear [] h = tt
-in-clear (r ∷ rows) h = (clear-exactly r .1 (h r (head refl)), in-clear rows (λ s m. h s (tail m)))
+in-clear (r ∷ checks) h = (clear-exactly r .1 (h r (head refl)), in-clear checks (λ s m. h s (tail m)))
 
--- the input is accepted exactly when no row is given anywhere
-pub accepted-exactly : (rows : List Row) → (verdict rows ≡ accepted) ↔ ((r : Row) → In r rows → (p : ℕ) → Given r p → ⊥)
-accepted-exactly rows = Iff·trans (accepted-clear rows) (clear-in rows, in-clear rows)
+-- the input is accepted exactly when no check is given anywhere
+pub accepted-exactly : (checks : List Check) → (verdict checks ≡ accepted) ↔ ((r : Check) → In r checks → (p : ℕ) → Given r p → ⊥)
+accepted-exactly checks = Iff·trans (accepted-clear checks) (clear-in checks, in-clear checks)
 
--- a row that is given after rows of which nothing offends is the first given
-pub given-first : (rows : List Row) {r : Row} (more : List Row) {p : ℕ} → AllClear rows → Given r p → FirstGiven (rows ++ (r ∷ more)) (numberOf r) p
+-- a check that is given after checks of which nothing offends is the first given
+pub given-first : (checks : List Check) {r : Check} (more : List Check) {p : ℕ} → AllClear checks → Given r p → FirstGiven (checks ++ (r ∷ more)) (numberOf r) p
 given-first [] more h g = this g
-given-first (s ∷ rows) more h g = later (λ p. clear-given (h .0)) (given-first rows more (h .1) g)
+given-first (s ∷ checks) more h g = later (λ p. clear-given (h .0)) (given-first checks more (h .1) g)
 
-pub clear-append : (rows more : List Row) → AllClear (rows ++ more) ↔ (AllClear rows × AllClear more)
+pub clear-append : (checks more : List Check) → AllClear (checks ++ more) ↔ (AllClear checks × AllClear more)
 clear-append [] more = (λ h. (tt, h), λ h. h .1)
-clear-append (r ∷ rows) more =
-    let ih = clear-append rows more in
+clear-append (r ∷ checks) more =
+    let ih = clear-append checks more in
     (λ h. ((h .0, ih .0 (h .1) .0), ih .0 (h .1) .1), λ h. (h .0 .0, ih .1 (h .0 .1, h .1)))
 
--- ---- The numbers of rows
+-- ---- The numbers of checks
 
--- the numbers of the rows are as told
-abbrev pub Numbers : (ℕ → Type 0) → List Row → Type 0
+-- the numbers of the checks are as told
+abbrev pub Numbers : (ℕ → Type 0) → List Check → Type 0
 Numbers P [] = Unit
-Numbers P (r ∷ rows) = P (numberOf r) × Numbers P rows
+Numbers P (r ∷ checks) = P (numberOf r) × Numbers P checks
 
-pub number-known : {rows : List Row} {k p : ℕ} (P : ℕ → Type 0) → Numbers P rows → FirstGiven rows k p → P k
+pub number-known : {checks : List Check} {k p : ℕ} (P : ℕ → Type 0) → Numbers P checks → FirstGiven checks k p → P k
 number-known P n (this g) = n .0
 number-known P n (later c f) = number-known P (n .1) f
 
@@ -177,47 +177,47 @@ abbrev pub placeIn : Verdict → ℕ
 placeIn accepted = 0
 placeIn (refused k p) = p
 
-pub answer-refuses : (rows : List Row) (k p : ℕ) → ((numberIn (verdict rows) ≡ suc k) × (placeIn (verdict rows) ≡ p)) ↔ FirstGiven rows (suc k) p
-answer-refuses rows k p = Iff·trans (go (verdict rows), λ e. (ap numberIn e, ap placeIn e)) (refused-exactly rows (suc k) p)
+pub answer-refuses : (checks : List Check) (k p : ℕ) → ((numberIn (verdict checks) ≡ suc k) × (placeIn (verdict checks) ≡ p)) ↔ FirstGiven checks (suc k) p
+answer-refuses checks k p = Iff·trans (go (verdict checks), λ e. (ap numberIn e, ap placeIn e)) (refused-exactly checks (suc k) p)
   where
     go : (v : Verdict) → (numberIn v ≡ suc k) × (placeIn v ≡ p) → v ≡ refused (suc k) p
     go accepted e = absurd (omega arith)
     go (refused n q) e = cc
 
-pub answer-accepts : (rows : List Row) (most : ℕ) → Numbers (λ k. (1 ≤ k) × (k ≤ most)) rows → (numberIn (verdict rows) ≡ 0) ↔ (verdict rows ≡ accepted)
-answer-accepts rows most n = (go (rows-read rows), ap numberIn)
+pub answer-accepts : (checks : List Check) (most : ℕ) → Numbers (λ k. (1 ≤ k) × (k ≤ most)) checks → (numberIn (verdict checks) ≡ 0) ↔ (verdict checks ≡ accepted)
+answer-accepts checks most n = (go (checks-read checks), ap numberIn)
   where
-    go : {v : Verdict} → Read rows v → numberIn v ≡ 0 → v ≡ accepted
+    go : {v : Verdict} → Read checks v → numberIn v ≡ 0 → v ≡ accepted
     go (passes h) e = refl
     go (refuses f) e = absurd (omega (arith, number-known (λ k. (1 ≤ k) × (k ≤ most)) n f))
 
--- ---- The last row
+-- ---- The last check
 
--- where no earlier row has its number, the last row is the first given only if nothing of the earlier rows offends
-last-given : (rows : List Row) (r : Row) {k p : ℕ} → Numbers (λ n. n ≢ k) rows → FirstGiven (rows ++ (r ∷ [])) k p → AllClear rows × Given r p
+-- where no earlier check has its number, the last check is the first given only if nothing of the earlier checks offends
+last-given : (checks : List Check) (r : Check) {k p : ℕ} → Numbers (λ n. n ≢ k) checks → FirstGiven (checks ++ (r ∷ [])) k p → AllClear checks × Given r p
 last-given [] r n (this g) = (tt, g)
 last-given [] r n (later c f) = elim f [ ]
-last-given (s ∷ rows) r n (this g) = absurd (n .0 refl)
-last-given (s ∷ rows) r n (later c f) = let t = last-given rows r (n .1) f in ((clear-exactly s .1 c, t .0), t .1)
+last-given (s ∷ checks) r n (this g) = absurd (n .0 refl)
+last-given (s ∷ checks) r n (later c f) = let t = last-given checks r (n .1) f in ((clear-exactly s .1 c, t .0), t .1)
 
 need-given : {k need room p : ℕ} → Given (needs k need room) p → (p ≡ need) × (room < p)
 need-given (by-need h) = (refl, h)
 
--- the last row lacks room, at p, exactly when p is the number needed, the room is less, and enough for p is accepted
-pub lacks-room : {X : Type 0} (rows : List Row) (k need room enough p : ℕ) → Numbers (λ n. n ≢ k) rows → p ≤ enough → (verdict (rows ++ (needs k need enough ∷ [])) ≡ accepted) ↔ X → (verdict (rows ++ (needs k need room ∷ [])) ≡ refused k p) ↔ (X × (p ≡ need) × (room < p))
+-- the last check lacks room, at p, exactly when p is the number needed, the room is less, and enough for p is accepted
+pub lacks-room : {X : Type 0} (checks : List Check) (k need room enough p : ℕ) → Numbers (λ n. n ≢ k) checks → p ≤ enough → (verdict (checks ++ (needs k need enough ∷ [])) ≡ accepted) ↔ X → (verdict (checks ++ (needs k need room ∷ [])) ≡ refused k p) ↔ (X × (p ≡ need) × (room < p))
 unfolding numberOf
-lacks-room {X} rows k need room enough p n fits x = (go, back)
+lacks-room {X} checks k need room enough p n fits x = (go, back)
   where
-    last : ℕ → List Row
+    last : ℕ → List Check
     last m = needs k need m ∷ []
 
-    go : verdict (rows ++ last room) ≡ refused k p → X × (p ≡ need) × (room < p)
+    go : verdict (checks ++ last room) ≡ refused k p → X × (p ≡ need) × (room < p)
     go e =
-        let t = last-given rows (needs k need room) n (refused-exactly (rows ++ last room) k p .0 e) in
+        let t = last-given checks (needs k need room) n (refused-exactly (checks ++ last room) k p .0 e) in
         let g = need-given (t .1) in
-        (x .0 (accepted-clear (rows ++ last enough) .1 (clear-append rows (last enough) .1 (t .0, (omega arith, tt)))), g .0, g .1)
+        (x .0 (accepted-clear (checks ++ last enough) .1 (clear-append checks (last enough) .1 (t .0, (omega arith, tt)))), g .0, g .1)
 
-    back : X × (p ≡ need) × (room < p) → verdict (rows ++ last room) ≡ refused k p
+    back : X × (p ≡ need) × (room < p) → verdict (checks ++ last room) ≡ refused k p
     back h =
-        let c = clear-append rows (last enough) .0 (accepted-clear (rows ++ last enough) .0 (x .1 (h .0))) .0 in
-        verdict-first (given-first rows [] c (subst (Given (needs k need room)) (sym (h .1)) (by-need (omega arith))))
+        let c = clear-append checks (last enough) .0 (accepted-clear (checks ++ last enough) .0 (x .1 (h .0))) .0 in
+        verdict-first (given-first checks [] c (subst (Given (needs k need room)) (sym (h .1)) (by-need (omega arith))))

@@ -32,6 +32,7 @@ pub record Said : Type 0 where
 abbrev pub sevens : ℕ → List ℤ
 sevens n = replicate n (pos 7)
 
+-- what is zeroed
 abbrev pub zeros : ℕ → List ℤ
 zeros n = replicate n (pos 0)
 
@@ -39,12 +40,14 @@ zeros n = replicate n (pos 0)
 unfoldable pub paperM : Point → Point → List Point → ℤ
 paperM k l ps = Option·getD (firstOf (λ p. ltZ (k .y) (p .y) && any (over (k .x) (l .x) (p .y)) ps) ps) k .y
 
+-- one step of the paper's rule
 unfoldable pub paperStep : List Point → Taken
 paperStep ps =
     let k : Point = pickK ps in
     let l : Point = pickL k ps in
     takeRect k l (paperM k l ps) ps
 
+-- the paper's list
 unfoldable pub paperList : List ℤ → List Rect
 paperList a = run paperStep (enough (pointsOf a)) (pointsOf a)
 
@@ -65,32 +68,41 @@ gives (backward a room) =
     record { numbers = map pos (r .answer ∷ r .place ∷ r .count ∷ []); out = backwardOut a (sevens (2 * room)); work = [] }
 gives (paper a) = record { numbers = pos (sum areaOf (paperList a)) ∷ []; out = flatRects (paperList a); work = [] }
 
--- ---- The plates, and B's list
+-- ---- The plates, as document 01 gives them
 
+-- a square of one cell
 abbrev pub plateA : List ℤ
 plateA = map pos (0 ∷ 0 ∷ 1 ∷ 0 ∷ 0 ∷ 1 ∷ 1 ∷ 1 ∷ [])
 
+-- a simple outline
 abbrev pub plateB : List ℤ
 plateB = map pos (0 ∷ 0 ∷ 4 ∷ 0 ∷ 4 ∷ 1 ∷ 8 ∷ 1 ∷ 8 ∷ 3 ∷ 4 ∷ 3 ∷ 4 ∷ 5 ∷ 1 ∷ 5 ∷ 1 ∷ 3 ∷ 0 ∷ 3 ∷ [])
 
+-- B's list
 abbrev pub listB : List ℤ
 listB = map pos (0 ∷ 0 ∷ 4 ∷ 3 ∷ 4 ∷ 1 ∷ 4 ∷ 2 ∷ 1 ∷ 3 ∷ 3 ∷ 2 ∷ [])
 
+-- bars crossing
 abbrev pub plateC : List ℤ
 plateC = map pos (3 ∷ 1 ∷ 5 ∷ 1 ∷ 3 ∷ 5 ∷ 5 ∷ 5 ∷ 0 ∷ 2 ∷ 10 ∷ 2 ∷ 0 ∷ 4 ∷ 10 ∷ 4 ∷ [])
 
+-- a ring
 abbrev pub plateD : List ℤ
 plateD = map pos (0 ∷ 0 ∷ 4 ∷ 0 ∷ 0 ∷ 4 ∷ 4 ∷ 4 ∷ 1 ∷ 1 ∷ 3 ∷ 1 ∷ 1 ∷ 3 ∷ 3 ∷ 3 ∷ [])
 
+-- two squares that touch at a corner, the corner left out
 abbrev pub plateE : List ℤ
 plateE = map pos (0 ∷ 0 ∷ 1 ∷ 0 ∷ 0 ∷ 1 ∷ 2 ∷ 1 ∷ 1 ∷ 2 ∷ 2 ∷ 2 ∷ [])
 
+-- a corner missing
 abbrev pub plateG : List ℤ
 plateG = map pos (0 ∷ 0 ∷ 1 ∷ 0 ∷ 0 ∷ 1 ∷ [])
 
+-- a corner out of its column
 abbrev pub plateH : List ℤ
 plateH = map pos (0 ∷ 0 ∷ 1 ∷ 0 ∷ 0 ∷ 1 ∷ 2 ∷ 1 ∷ [])
 
+-- the two squares with the shared corner given twice
 abbrev pub plateI : List ℤ
 plateI = map pos (0 ∷ 0 ∷ 1 ∷ 0 ∷ 0 ∷ 1 ∷ 1 ∷ 1 ∷ 1 ∷ 1 ∷ 2 ∷ 1 ∷ 1 ∷ 2 ∷ 2 ∷ 2 ∷ [])
 
@@ -98,6 +110,7 @@ plateI = map pos (0 ∷ 0 ∷ 1 ∷ 0 ∷ 0 ∷ 1 ∷ 1 ∷ 1 ∷ 1 ∷ 1 ∷ 2 
 abbrev pub plateJ : ℤ → List ℤ
 plateJ side = lowEnd ∷ lowEnd ∷ side ∷ lowEnd ∷ lowEnd ∷ highEnd ∷ side ∷ highEnd ∷ []
 
+-- one rectangle twice
 abbrev pub listL : List ℤ
 listL = map pos (0 ∷ 0 ∷ 1 ∷ 1 ∷ 0 ∷ 0 ∷ 1 ∷ 1 ∷ [])
 
@@ -116,6 +129,7 @@ done n count area edge list = record { numbers = map pos (0 ∷ 0 ∷ count ∷ 
 abbrev pub refuses : ℕ → ℕ → List ℤ → List ℤ → Said
 refuses number place out work = record { numbers = map pos (number ∷ place ∷ 0 ∷ 0 ∷ 0 ∷ []); out = out; work = work }
 
+-- the lines
 unfoldable pub cases : List Line
 cases =
     -- A, with room to spare, and one step of it

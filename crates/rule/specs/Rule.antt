@@ -33,37 +33,37 @@ unfoldable pub pickK : List Point → Point
 pickK ps = Option·getD (firstOf (λ p. true) ps) origin
 
 -- right of K on K's row
-unfoldable pub rightOf : Point → Point → Bool
+unfoldable pub rightOf : (k : Point) → Point → Bool
 rightOf k p = onRow (k .y) p && ltZ (k .x) (p .x)
 
 -- L is the next leftmost on that row
-unfoldable pub pickL : Point → List Point → Point
+unfoldable pub pickL : (k : Point) → List Point → Point
 pickL k ps = Option·getD (firstOf (rightOf k) ps) k
 
 -- on row y, with xK ≤ x < xL
-unfoldable pub over : ℤ → ℤ → ℤ → Point → Bool
+unfoldable pub over : (xk xl y : ℤ) → Point → Bool
 over xk xl y p = onRow y p && (leZ xk (p .x) && ltZ (p .x) xl)
 
 -- on row y, with x < xK
-unfoldable pub leftOf : ℤ → ℤ → Point → Bool
+unfoldable pub leftOf : (xk y : ℤ) → Point → Bool
 leftOf xk y p = onRow y p && ltZ (p .x) xk
 
 -- row y stops a rectangle between xK and xL: it has a point with xK ≤ x < xL, or an odd number of points with x < xK
-unfoldable pub stops : List Point → ℤ → ℤ → ℤ → Bool
+unfoldable pub stops : List Point → (xk xl y : ℤ) → Bool
 stops ps xk xl y = any (over xk xl y) ps || odd (leftOf xk y) ps
 
 -- above K, on a row that stops the rectangle between K and L
-unfoldable pub stopper : Point → Point → List Point → Point → Bool
+unfoldable pub stopper : (k l : Point) → List Point → Point → Bool
 stopper k l ps p = ltZ (k .y) (p .y) && stops ps (k .x) (l .x) (p .y)
 
 -- M is the lowest row above K's that stops the rectangle
-unfoldable pub pickM : Point → Point → List Point → ℤ
+unfoldable pub pickM : (k l : Point) → List Point → ℤ
 pickM k l ps = Option·getD (firstOf (stopper k l ps) ps) k .y
 
 -- ---- The rectangle and the toggles
 
 -- X = xK, Y = yK, W = xL - xK, H = M - yK
-unfoldable pub rectOf : Point → Point → ℤ → Rect
+unfoldable pub rectOf : (k l : Point) (m : ℤ) → Rect
 rectOf k l m = record { x = k .x; y = k .y; w = l .x -ℤ k .x; h = m -ℤ k .y }
 
 -- one place further
@@ -85,16 +85,17 @@ remove ps i = take (length ps - 1) (set ps i (getD ps (length ps - 1) origin))
 unfoldable pub add : List Point → Point → List Point
 add ps p = ps ++ (p ∷ [])
 
--- a present point is removed, an absent one is added
+-- at a place the point is removed, at none it is added
 abbrev pub toggleAt : Option ℕ → List Point → Point → List Point
 toggleAt none ps p = add ps p
 toggleAt (some i) ps p = remove ps i
 
+-- toggling a present point removes it; an absent one is added
 unfoldable pub toggle : List Point → Point → List Point
 toggle ps p = toggleAt (placeOf p ps) ps p
 
 -- toggle four points in this order: K, L, (xK, M), (xL, M)
-unfoldable pub toggleFour : List Point → Point → Point → ℤ → List Point
+unfoldable pub toggleFour : List Point → (k l : Point) (m : ℤ) → List Point
 toggleFour ps k l m = toggle (toggle (toggle (toggle ps k) l) (record { x = k .x; y = m })) (record { x = l .x; y = m })
 
 -- ---- A step and the list
@@ -105,7 +106,7 @@ pub record Taken : Type 0 where
   pub left : List Point
 
 -- the rectangle between K, L and M, with its four toggles
-unfoldable pub takeRect : Point → Point → ℤ → List Point → Taken
+unfoldable pub takeRect : (k l : Point) (m : ℤ) → List Point → Taken
 takeRect k l m ps = record { rect = rectOf k l m; left = toggleFour ps k l m }
 
 -- one step
@@ -116,13 +117,13 @@ step ps =
     takeRect k l (pickM k l ps) ps
 
 -- the rectangles of so many steps, while points remain
-unfoldable pub run : (List Point → Taken) → ℕ → List Point → List Rect
+unfoldable pub run : (next : List Point → Taken) → ℕ → List Point → List Rect
 run next zero ps = []
 run next (suc n) [] = []
 run next (suc n) (p ∷ ps) = next (p ∷ ps) .rect ∷ run next n (next (p ∷ ps) .left)
 
 -- the points left after so many steps
-unfoldable pub leftAfter : (List Point → Taken) → ℕ → List Point → List Point
+unfoldable pub leftAfter : (next : List Point → Taken) → ℕ → List Point → List Point
 leftAfter next zero ps = ps
 leftAfter next (suc n) [] = []
 leftAfter next (suc n) (p ∷ ps) = leftAfter next n (next (p ∷ ps) .left)

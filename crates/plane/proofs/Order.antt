@@ -1,26 +1,20 @@
 -- The order of ℤ for `omega`: z is `up z` - `dn z`, so that a test of order is a linear fact on natural numbers.
 -- `omega order` reads `leZ a b ≡ true`, `ltZ a b ≡ false`, `eqZ a b ≡ true` and the like, and proves them.
-use mathlib.Core.Path.{_≡_, refl, sym, ap, _∙_, subst⁻¹}
+use mathlib.Core.Path.{_≡_, refl, sym, ap, _∙_}
 use mathlib.Core.Logic.{_≢_}
 use Prim.Native.Nat.{ℕ, zero, suc, _+_, _≤_, _<_}
 use native.Mathlib.Omega.{arith}
-use mathlib.Core.Bool.{Bool, true, false, not, true≢false, false≢true}
-use lib.Dec.{T, ltb, eqb, leb→le, ltb→lt, nleb→lt, nltb→le, eqb→eq, eqb-refl}
+use mathlib.Core.Bool.{true, false, true≢false, false≢true}
+use lib.Dec.{ltb}
+use borrow.Author.Tests.{ltb-true, ltb-false, leb-true, leb-false, eqb-true, eq-eqb}
 use lib.IntN.{ℤ, pos, negsuc, subℕ, predℤ, _+ℤ_, _-ℤ_, +ℤ-comm, -ℤ-+ℤ-cancel}
 use lib.Signed.{leZ, ltZ}
 use Rattle.plane.specs.Words.{eqZ}
 use Rattle.plane.proofs.Bools.{by, by-no, cond-case}
 
-pub yes-T : {b : Bool} → b ≡ true → T b
-yes-T e = subst⁻¹ T e tt
+-- ---- A number as a difference
 
-pub T-yes : (b : Bool) → T b → b ≡ true
-T-yes true t = refl
-T-yes false t = absurd t
-
-pub no-T : {b : Bool} → b ≡ false → T (not b)
-no-T e = subst⁻¹ (λ (c : Bool). T (not c)) e tt
-
+-- how far above 0, and how far below
 pub up : ℤ → ℕ
 up (pos n) = n
 up (negsuc n) = 0
@@ -29,33 +23,35 @@ pub dn : ℤ → ℕ
 dn (pos n) = 0
 dn (negsuc n) = suc n
 
+-- ---- From the test to the fact
+
 pub le→ : (a b : ℤ) → leZ a b ≡ true → up a + dn b ≤ up b + dn a
 unfolding up dn
-le→ (pos a) (pos b) e = omega (arith, leb→le a b (yes-T e))
+le→ (pos a) (pos b) e = omega (arith, leb-true a b e)
 le→ (pos a) (negsuc b) e = absurd (false≢true e)
 le→ (negsuc a) (pos b) e = omega arith
-le→ (negsuc a) (negsuc b) e = omega (arith, leb→le b a (yes-T e))
+le→ (negsuc a) (negsuc b) e = omega (arith, leb-true b a e)
 
 pub nle→ : (a b : ℤ) → leZ a b ≡ false → up b + dn a < up a + dn b
 unfolding up dn
-nle→ (pos a) (pos b) e = omega (arith, nleb→lt a b (no-T e))
+nle→ (pos a) (pos b) e = omega (arith, leb-false a b e)
 nle→ (pos a) (negsuc b) e = omega arith
 nle→ (negsuc a) (pos b) e = absurd (true≢false e)
-nle→ (negsuc a) (negsuc b) e = omega (arith, nleb→lt b a (no-T e))
+nle→ (negsuc a) (negsuc b) e = omega (arith, leb-false b a e)
 
 pub lt→ : (a b : ℤ) → ltZ a b ≡ true → up a + dn b < up b + dn a
 unfolding up dn
-lt→ (pos a) (pos b) e = omega (arith, ltb→lt a b (yes-T e))
+lt→ (pos a) (pos b) e = omega (arith, ltb-true a b e)
 lt→ (pos a) (negsuc b) e = absurd (false≢true e)
 lt→ (negsuc a) (pos b) e = omega arith
-lt→ (negsuc a) (negsuc b) e = omega (arith, ltb→lt b a (yes-T e))
+lt→ (negsuc a) (negsuc b) e = omega (arith, ltb-true b a e)
 
 pub nlt→ : (a b : ℤ) → ltZ a b ≡ false → up b + dn a ≤ up a + dn b
 unfolding up dn
-nlt→ (pos a) (pos b) e = omega (arith, nltb→le a b (no-T e))
+nlt→ (pos a) (pos b) e = omega (arith, ltb-false a b e)
 nlt→ (pos a) (negsuc b) e = omega arith
 nlt→ (negsuc a) (pos b) e = absurd (true≢false e)
-nlt→ (negsuc a) (negsuc b) e = omega (arith, nltb→le b a (no-T e))
+nlt→ (negsuc a) (negsuc b) e = omega (arith, ltb-false b a e)
 
 -- ---- From the fact to the test
 
@@ -71,17 +67,19 @@ pub →lt : (a b : ℤ) → up a + dn b < up b + dn a → ltZ a b ≡ true
 pub →nlt : (a b : ℤ) → up b + dn a ≤ up a + dn b → ltZ a b ≡ false
 →nlt a b h = by-no (ltZ a b) (λ e. let k = lt→ a b e in omega arith)
 
+-- ---- Equality
+
 pub eqZ-is : (a b : ℤ) → eqZ a b ≡ true → a ≡ b
 unfolding eqZ
-eqZ-is (pos a) (pos b) e = ap pos (eqb→eq a b (yes-T e))
+eqZ-is (pos a) (pos b) e = ap pos (eqb-true a b e)
 eqZ-is (pos a) (negsuc b) e = absurd (false≢true e)
 eqZ-is (negsuc a) (pos b) e = absurd (false≢true e)
-eqZ-is (negsuc a) (negsuc b) e = ap negsuc (eqb→eq a b (yes-T e))
+eqZ-is (negsuc a) (negsuc b) e = ap negsuc (eqb-true a b e)
 
 pub eqZ-refl : (a : ℤ) → eqZ a a ≡ true
 unfolding eqZ
-eqZ-refl (pos a) = T-yes (eqb a a) (eqb-refl a)
-eqZ-refl (negsuc a) = T-yes (eqb a a) (eqb-refl a)
+eqZ-refl (pos a) = eq-eqb a a refl
+eqZ-refl (negsuc a) = eq-eqb a a refl
 
 -- two numbers with one difference are equal
 pub same-ℤ : (a b : ℤ) → up a + dn b ≡ up b + dn a → a ≡ b
@@ -106,13 +104,15 @@ neq→ a b e h = true≢false (sym (→eq a b h) ∙ e)
 pub →neq : (a b : ℤ) → up a + dn b ≢ up b + dn a → eqZ a b ≡ false
 →neq a b h = by-no (eqZ a b) (λ e. h (eq→ a b e))
 
+-- ---- What `omega` is handed
+
 pub ruleset order = (arith, le→, nle→, lt→, nlt→, eq→, neq→, path→, →le, →nle, →lt, →nlt, →eq, →neq, same-ℤ)
 
--- ---- sums: a fact for `omega`'s list, `omega (order, add-up a b)`
+-- ---- Sums: facts for `omega`'s list, as `omega (order, add-up a b)`
 
 sub-up : (a b : ℕ) → up (subℕ a b) + b ≡ dn (subℕ a b) + a
 unfolding up dn
-sub-up a b = cond-case (λ z. up z + b ≡ dn z + a) (ltb a b) (λ e. omega (arith, ltb→lt a b (yes-T e))) (λ e. omega (arith, nltb→le a b (no-T e)))
+sub-up a b = cond-case (λ z. up z + b ≡ dn z + a) (ltb a b) (λ e. omega (arith, ltb-true a b e)) (λ e. omega (arith, ltb-false a b e))
 
 pub add-up : (a b : ℤ) → up (a +ℤ b) + (dn a + dn b) ≡ dn (a +ℤ b) + (up a + up b)
 unfolding up dn

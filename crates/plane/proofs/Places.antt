@@ -9,11 +9,12 @@ use mathlib.Core.List.{List, [], _∷_, List·Memᴰ as In, List·Memᴰ·head a
 use lib.ListN.{length, getD, take, drop, take-append-drop}
 use lib.Seq.{drop-cons}
 use lib.IntN.{ℤ}
+use borrow.Author.Tests.{not-false}
 use Rattle.plane.specs.declared.Point.{Point}
 use Rattle.plane.specs.Lists.{bit, any, count, odd, sum}
 use Rattle.plane.specs.Words.{origin, same, onRow, inColumn}
 use Rattle.plane.proofs.Order.{eqZ-is}
-use Rattle.plane.proofs.Bools.{clash, by-no, or-parts, not-false}
+use Rattle.plane.proofs.Bools.{clash, by-no, or-parts}
 use Rattle.plane.proofs.Sums.{sum-append, any-find, count-sum, count-in, count-find}
 use Rattle.plane.proofs.Parity.{odd-find}
 use Rattle.plane.proofs.Points.{same-is, same-refl}

@@ -6,11 +6,12 @@ use mathlib.Core.List.{List, [], _∷_, List·Memᴰ as In, List·Memᴰ·head a
 use mathlib.Core.Option.{Option, none, some, Option·getD}
 use lib.IntN.{ℤ}
 use lib.Signed.{leZ, ltZ}
+use borrow.Author.Tests.{not-true}
 use Rattle.plane.specs.declared.Point.{Point}
 use Rattle.plane.specs.Lists.{count, odd}
 use Rattle.plane.specs.Words.{origin, eqZ, same, onRow, inColumn, before}
 use Rattle.plane.proofs.Order.{order, eqZ-is, eqZ-refl}
-use Rattle.plane.proofs.Bools.{by, by-no, and-parts, and-make, not-true, clash, xor-same}
+use Rattle.plane.proofs.Bools.{by, by-no, and-parts, and-make, clash, xor-same}
 use Rattle.plane.proofs.Sums.{any-in}
 use Rattle.plane.proofs.Parity.{odd-cong, odd-find, odd-split, odd-one}
 use Rattle.plane.proofs.Points.{same-is, same-refl, After, above, along, after-refl, after-trans, after-no, after-yes, after-both}

@@ -8,11 +8,10 @@ use mathlib.Core.List.{List, [], _∷_, map, List·Memᴰ as In}
 use lib.ListN.{length, take}
 use lib.IntN.{ℤ}
 use lib.Dec.{eqb}
-use borrow.Author.Tests.{ltb-false, eqb-true, eqb-false, le-ltb, eq-eqb, ne-eqb}
+use borrow.Author.Tests.{ltb-false, eqb-true, eqb-false, le-ltb, eq-eqb, ne-eqb, not-false}
 use Rattle.plane.specs.declared.Point.{Point}
 use Rattle.plane.specs.declared.Rect.{Rect}
 use Rattle.plane.specs.Words.{origin, pointInRange, rectInRange, flat, pointsOf, rectsOf}
-use Rattle.plane.proofs.Bools.{not-false}
 use Rattle.plane.proofs.Places.{at-every-place, all-pass, rows-even, columns-even, once-exactly}
 use Rattle.rule.specs.Rule.{Taken, step, ruleList}
 use Rattle.rule.specs.Back.{backList}

@@ -5,11 +5,12 @@ use native.Mathlib.Omega.{arith}
 use mathlib.Core.Bool.{true, false, not}
 use mathlib.Core.List.{List, map, List·Memᴰ as In, List·Memᴰ·head as head, List·Memᴰ·tail as tail}
 use lib.IntN.{ℤ}
+use borrow.Author.Tests.{not-true}
 use Rattle.plane.specs.declared.Point.{Point}
 use Rattle.plane.specs.declared.Rect.{Rect}
 use Rattle.plane.specs.Lists.{bit, count}
 use Rattle.plane.specs.Words.{same, before, risingAfter, rising, lowerLeft, flat, rectInRange}
-use Rattle.plane.proofs.Bools.{by, and-make, not-true}
+use Rattle.plane.proofs.Bools.{by, and-make}
 use Rattle.plane.proofs.Sums.{sum-in, count-sum, count-mono}
 use Rattle.plane.proofs.Points.{after-no, after-both, before-self, before-above}
 use Rattle.rule.specs.Rule.{rectOf, toggleFour, ruleList}

@@ -86,5 +86,5 @@ backward-then-forward r points work out done few working room =
     forward-accepts-exactly (flatPoints ps) work out .1 (forward-accepted (flatPoints ps) work out .1 (record { even = omega arith; few = omega arith; working = omega arith; points = rw (points-flat ps) (back-accepted (rectsOf r) (rects-accepted r points done)); room = rw (points-flat ps) room }))
 
 -- two rectangle lists that backward accepts have equal forward lists exactly when the same cells lie in an odd number of rectangles of each
-pub two-lists : (r s : List ℤ) (pr ps : ℕ) → backwardAnswer r pr .answer ≡ 0 → backwardAnswer s ps .answer ≡ 0 → (ruleList (backList (rectsOf r)) ≡ ruleList (backList (rectsOf s))) ↔ ((x y : ℤ) → odd (holds x y) (rectsOf r) ≡ odd (holds x y) (rectsOf s))
-two-lists r s pr ps dr ds = backward-forward (rectsOf r) (rectsOf s) (rects-accepted r pr dr) (rects-accepted s ps ds)
+pub two-lists : (r s : List ℤ) (pr ps : ℕ) → backwardAnswer r pr .answer ≡ 0 → backwardAnswer s ps .answer ≡ 0 → (ruleList (pointsOf (flatPoints (backList (rectsOf r)))) ≡ ruleList (pointsOf (flatPoints (backList (rectsOf s))))) ↔ ((x y : ℤ) → odd (holds x y) (rectsOf r) ≡ odd (holds x y) (rectsOf s))
+two-lists r s pr ps dr ds = rw (points-flat (backList (rectsOf r)), points-flat (backList (rectsOf s))) (backward-forward (rectsOf r) (rectsOf s) (rects-accepted r pr dr) (rects-accepted s ps ds))

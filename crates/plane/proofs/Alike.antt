@@ -1,11 +1,11 @@
 -- Lists of points with the same parity of every test. For lists without repeats that is the same set of points; and
 -- it is what the marked cells tell: points that mark the same cells are alike.
-use mathlib.Core.Path.{_≡_, refl, sym, _∙_, subst}
+use mathlib.Core.Path.{_≡_, refl, sym, ap₂, _∙_, subst}
 use Prim.Native.Nat.{_≤_}
 use mathlib.Core.Bool.{Bool, true, false, _&&_, xor, and-true, and-false}
 use mathlib.Core.List.{List, _++_, List·Memᴰ as In}
 use lib.IntN.{ℤ, predℤ}
-use lib.Signed.{leZ, ltZ}
+use lib.Signed.{leZ}
 use Rattle.plane.specs.declared.Point.{Point}
 use Rattle.plane.specs.Lists.{odd, count}
 use Rattle.plane.specs.Words.{eqZ, same, under, marks}
@@ -41,21 +41,15 @@ points-alike ps qs h = record { parity = λ f. xor-same _ _ (sym (odd-append f p
 
 -- ---- The marked cells tell the points
 
-le-pred : (a b : ℤ) → leZ a (predℤ b) ≡ ltZ a b
-le-pred a b = go (ltZ a b) refl
-  where
-    go : (t : Bool) → ltZ a b ≡ t → leZ a (predℤ b) ≡ t
-    go true e = omega (order, pred-up b)
-    go false e = omega (order, pred-up b)
-
-eq-xor : (a b : ℤ) → eqZ b a ≡ xor (leZ a b) (ltZ a b)
+-- a number is b if it is at most b, and not at most the number before b
+eq-xor : (a b : ℤ) → eqZ b a ≡ xor (leZ a b) (leZ a (predℤ b))
 unfolding xor
-eq-xor a b = go (leZ a b) refl (ltZ a b) refl
+eq-xor a b = go (leZ a b) refl (leZ a (predℤ b)) refl
   where
-    go : (s : Bool) → leZ a b ≡ s → (t : Bool) → ltZ a b ≡ t → eqZ b a ≡ xor s t
-    go true d true e = omega order
-    go true d false e = omega order
-    go false d true e = absurd (omega order)
+    go : (s : Bool) → leZ a b ≡ s → (t : Bool) → leZ a (predℤ b) ≡ t → eqZ b a ≡ xor s t
+    go true d true e = omega (order, pred-up b)
+    go true d false e = omega (order, pred-up b)
+    go false d true e = absurd (omega (order, pred-up b))
     go false d false e = omega order
 
 xor-and : (a b c d : Bool) → (xor a b && xor c d) ≡ xor (xor (a && c) (b && c)) (xor (a && d) (b && d))
@@ -78,7 +72,7 @@ xor-and false false false d = refl
 -- a point is q if it is under q's own cell, and neither under the cell to the left nor under the cell below
 same-under : (q p : Point) → same q p ≡ xor (xor (under (q .x) (q .y) p) (under (predℤ (q .x)) (q .y) p)) (xor (under (q .x) (predℤ (q .y)) p) (under (predℤ (q .x)) (predℤ (q .y)) p))
 unfolding same under
-same-under q p = rw (le-pred (p .x) (q .x), le-pred (p .y) (q .y), eq-xor (p .x) (q .x), eq-xor (p .y) (q .y)) (xor-and _ _ _ _)
+same-under q p = ap₂ (λ s t. s && t) (eq-xor (p .x) (q .x)) (eq-xor (p .y) (q .y)) ∙ xor-and _ _ _ _
 
 -- so the parity of one point is read off four cells
 odd-marks : (q : Point) (ps : List Point) → odd (same q) ps ≡ xor (xor (marks ps (q .x) (q .y)) (marks ps (predℤ (q .x)) (q .y))) (xor (marks ps (q .x) (predℤ (q .y))) (marks ps (predℤ (q .x)) (predℤ (q .y))))

@@ -32,7 +32,7 @@ module _ {ps : List Point} {k l : Point} {m : ℤ} (c : Picked ps k l m) where
   step-no-growth : length (toggleFour ps k l m) ≤ length ps
   step-no-growth = omega (arith, sum-length ps, sum-length (toggleFour ps k l m), sum-step (λ p. 1))
 
-  -- a test that K, L and (xK, M), (xL, M) pass, and that every point passed, every point left passes
+  -- a test that every point passes, and (xK, M) and (xL, M) do, every point left passes
   pub step-all : (f : Point → Bool) → ((q : Point) → In q ps → f q ≡ true) → f (record { x = k .x; y = m }) ≡ true → f (record { x = l .x; y = m }) ≡ true → (q : Point) → In q (toggleFour ps k l m) → f q ≡ true
   step-all f h km lm q n =
       let a : bit (not (f (record { x = k .x; y = m }))) ≡ 0 = ap (λ t. bit (not t)) km in

@@ -5,8 +5,8 @@ use native.Mathlib.Omega.{arith}
 use mathlib.Core.Bool.{Bool, true, false, not, _&&_, xor, false≢true, and-assoc, and-false}
 use mathlib.Core.List.{List, [], _∷_, _++_, List·Memᴰ as In, List·Memᴰ·head as head, List·Memᴰ·tail as tail}
 use Rattle.plane.specs.Lists.{bit, any, count, odd, sum}
-use Rattle.plane.proofs.Bools.{iff, and-parts, xor-self, xor-false, false-xor, xor-assoc, xor-swap, isOdd, isOdd-bit}
-use Rattle.plane.proofs.Sums.{any-find, any-in, count-sum, count-in}
+use Rattle.plane.proofs.Bools.{clash, by, iff, and-parts, xor-self, xor-false, false-xor, xor-assoc, xor-swap, isOdd, isOdd-bit}
+use Rattle.plane.proofs.Sums.{sum-zero, any-find, any-in, count-sum, count-in, count-none}
 
 module _ {A : Type 0} where
   pub odd-none-of : (f : A → Bool) → odd f [] ≡ false
@@ -28,19 +28,13 @@ module _ {A : Type 0} where
   odd-cong f g (a ∷ l) h = rw (h a (head refl), odd-cong f g l (λ b m. h b (tail m)))
 
   pub odd-none : (f : A → Bool) (l : List A) → ((a : A) → In a l → f a ≡ false) → odd f l ≡ false
-  unfolding odd
-  odd-none f [] h = refl
-  odd-none f (a ∷ l) h = rw (h a (head refl), odd-none f l (λ b m. h b (tail m))) (xor-self false)
+  unfolding isOdd
+  odd-none f l h = odd-sum f l ∙ ap isOdd (sum-zero (λ a. bit (f a)) l (λ a m. ap bit (h a m)))
 
   -- an odd count is of something
   pub odd-find : (f : A → Bool) (l : List A) → odd f l ≡ true → (a : A) × In a l × (f a ≡ true)
-  unfolding odd
-  odd-find f [] e = absurd (false≢true e)
-  odd-find f (a ∷ l) e = go (odd-find f l) (f a) refl e
-    where
-      go : (odd f l ≡ true → (b : A) × In b l × (f b ≡ true)) → (t : Bool) → f a ≡ t → xor t (odd f l) ≡ true → (b : A) × In b (a ∷ l) × (f b ≡ true)
-      go ih true h e = (a, head refl, h)
-      go ih false h e = let r = ih (sym (false-xor (odd f l)) ∙ e) in (r .0, tail (r .1), r .2)
+  unfolding isOdd
+  odd-find f l e = any-find f l (by (any f l) (λ n. clash e (odd-sum f l ∙ ap isOdd (sym (count-sum f l) ∙ count-none f l n))))
 
   pub odd-append : (f : A → Bool) (l m : List A) → odd f (l ++ m) ≡ xor (odd f l) (odd f m)
   unfolding odd

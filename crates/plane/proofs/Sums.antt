@@ -8,7 +8,7 @@ use mathlib.Core.List.{List, [], _∷_, _++_, List·Memᴰ as In, List·Memᴰ·
 use lib.ListN.{length, getD, take, set, length-set}
 use lib.Seq.{getD-set-same, getD-set-other}
 use Rattle.plane.specs.Lists.{bit, any, count, sum, keep, only}
-use Rattle.plane.proofs.Bools.{cond-le, or-parts, or-right}
+use Rattle.plane.proofs.Bools.{by, cond-le, or-parts, or-right}
 
 module _ {A : Type 0} where
   -- ---- Sums
@@ -120,20 +120,14 @@ module _ {A : Type 0} where
   pub count-in : (f : A → Bool) {l : List A} {a : A} → In a l → f a ≡ true → 1 ≤ count f l
   count-in f {l} {a} m h = let e : bit (f a) ≡ 1 = ap bit h in omega (arith, count-sum f l, sum-in (λ b. bit (f b)) m)
 
-  pub count-find : (f : A → Bool) (l : List A) → 1 ≤ count f l → (a : A) × In a l × (f a ≡ true)
-  unfolding count
-  count-find f [] h = absurd (omega arith)
-  count-find f (a ∷ l) h = go (count-find f l) (f a) refl h
-    where
-      go : (1 ≤ count f l → (b : A) × In b l × (f b ≡ true)) → (t : Bool) → f a ≡ t → 1 ≤ cond t (suc (count f l)) (count f l) → (b : A) × In b (a ∷ l) × (f b ≡ true)
-      go ih true d h = (a, head refl, d)
-      go ih false d h = let r = ih h in (r .0, tail (r .1), r .2)
-
   -- where none passes, the count is 0
   pub count-none : (f : A → Bool) (l : List A) → any f l ≡ false → count f l ≡ 0
   unfolding any count
   count-none f [] e = refl
   count-none f (a ∷ l) e = let h = or-parts (f a) (any f l) e in rw (h .0) (count-none f l (h .1))
+
+  pub count-find : (f : A → Bool) (l : List A) → 1 ≤ count f l → (a : A) × In a l × (f a ≡ true)
+  count-find f l h = any-find f l (by (any f l) (λ e. let z = count-none f l e in omega arith))
 
   pub count-mono : (f g : A → Bool) (l : List A) → ((a : A) → In a l → f a ≡ true → g a ≡ true) → count f l ≤ count g l
   unfolding count

@@ -7,6 +7,7 @@ use native.Mathlib.Omega.{arith}
 use mathlib.Core.List.{List, _++_}
 use lib.ListN.{length, drop}
 use lib.IntN.{ℤ}
+use Rattle.plane.specs.declared.Point.{Point}
 use Rattle.plane.specs.Lists.{bit, count, odd}
 use Rattle.plane.specs.Words.{marks, holds, cells, pointsOf, flatPoints, rectsOf, flatRects, inOrder}
 use Rattle.plane.proofs.Arrays.{length-points, points-flat, length-flat-points, rects-flat, length-flat-rects}
@@ -56,21 +57,28 @@ forward-sums-fit a work out = go (verdict (forwardChecks a work out)) (λ e. for
 
 -- ---- Forward and then backward
 
+-- read as an array, the list gives the points in order
+list-back : (ps : List Point) → Accepted ps → backList (rectsOf (flatRects (ruleList ps))) ≡ inOrder ps
+list-back ps acc = ap backList (rects-flat (ruleList ps)) ∙ forward-backward ps acc
+
+-- backward accepts a list of forward's, where it has at most 16,384 rectangles and there is room for the points
+list-accepted : (ps : List Point) → Accepted ps → (out : ℕ) → length (ruleList ps) ≤ 16384 → length ps ≤ out / 2 → verdict (backwardChecks (flatRects (ruleList ps)) out) ≡ accepted
+list-accepted ps acc out few room =
+    let rs = ruleList ps in
+    let four = length-flat-rects rs in
+    backward-accepted (flatRects rs) out .1 (record { even = omega arith; few = omega arith; rects = rw (rects-flat rs) (rule-rects ps acc); room = rw (list-back ps acc) (omega (arith, inOrder-length ps (acc .once))) })
+
 -- where the list has at most 16,384 rectangles and there is room, it gives the input's points in order of y, then x
 pub forward-then-backward : (a : List ℤ) (work out : ℕ) (points : List ℤ) → forwardAnswer a work out .answer ≡ 0 → length (ruleList (pointsOf a)) ≤ 16384 → length a ≤ length points → let list = flatRects (ruleList (pointsOf a)) in (backwardAnswer list (length points) ≡ record { answer = 0; place = 0; count = length a / 2 }) × (backwardOut list points ≡ flatPoints (inOrder (pointsOf a)) ++ drop (length a) points)
 unfolding backwardAnswer backwardOut
 forward-then-backward a work out points done few room =
     let ps = pointsOf a in
-    let rs = ruleList ps in
     let fits : ForwardAccepted a work out = forward-accepted a work out .0 (forward-verdict a work out done) in
     let acc : Accepted ps = fits .points in
-    let back : backList (rectsOf (flatRects rs)) ≡ inOrder ps = ap backList (rects-flat rs) ∙ forward-backward ps acc in
-    let many : length (inOrder ps) ≡ length a / 2 = inOrder-length ps (acc .once) ∙ length-points a in
-    let all : length (flatPoints (inOrder ps)) ≡ length a = omega (arith, length-flat-points (inOrder ps), many, fits .even) in
-    let four = length-flat-rects rs in
-    let ok : verdict (backwardChecks (flatRects rs) (length points)) ≡ accepted =
-    backward-accepted (flatRects rs) (length points) .1 (record { even = omega arith; few = omega arith; rects = rw (rects-flat rs) (rule-rects ps acc); room = rw back (omega (arith, many)) }) in
-    (rw (ok, back, many), rw (ok, back, all))
+    let half : length (inOrder ps) ≡ length a / 2 = inOrder-length ps (acc .once) ∙ length-points a in
+    let all : length (flatPoints (inOrder ps)) ≡ length a = omega (arith, length-flat-points (inOrder ps), half, fits .even) in
+    let ok = list-accepted ps acc (length points) few (omega (arith, length-points a)) in
+    (rw (ok, list-back ps acc, half), rw (ok, list-back ps acc, all))
 
 -- ---- Backward and then forward
 

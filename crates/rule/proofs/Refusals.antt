@@ -16,8 +16,8 @@ use Rattle.plane.proofs.Places.{at-every-place, all-pass, rows-even, columns-ev
 use Rattle.rule.specs.Rule.{Taken, step, ruleList}
 use Rattle.rule.specs.Back.{backList}
 use Rattle.rule.specs.Table.{Check, numberOf, FirstGiven, LENGTH, MANY, WORK, RANGE, RANGE-rects, ROOM, FLAT, pointChecks, forwardChecks, backwardChecks, stepChecks, Verdict, accepted, refused, verdict, Accepted, AcceptedRects}
-use Rattle.rule.proofs.Verdicts.{Clear, AllClear, accepted-clear, clear-append, Numbers, numberIn, placeIn, answer-refuses, answer-accepts, lacks-room}
 use Rattle.rule.specs.Answers.{forwardSays, forwardAnswer, backwardSays, backwardAnswer, stepSays, stepAnswer, stepNumber, stepPlace}
+use Rattle.rule.proofs.Verdicts.{Clear, AllClear, accepted-clear, clear-append, Numbers, numberIn, placeIn, answer-refuses, answer-accepts, lacks-room}
 
 -- ---- The orders
 
@@ -38,15 +38,16 @@ step-order work n = refl
 
 -- ---- Answers
 
-forward-numbers : (a : List ℤ) (work out : ℕ) → Numbers (λ k. (1 ≤ k) × (k ≤ 8)) (forwardChecks a work out)
+-- no check has the number 0, which is done's
+forward-numbers : (a : List ℤ) (work out : ℕ) → Numbers (λ k. 1 ≤ k) (forwardChecks a work out)
 unfolding forwardChecks pointChecks numberOf
 forward-numbers a work out = omega arith
 
-backward-numbers : (a : List ℤ) (out : ℕ) → Numbers (λ k. (1 ≤ k) × (k ≤ 9)) (backwardChecks a out)
+backward-numbers : (a : List ℤ) (out : ℕ) → Numbers (λ k. 1 ≤ k) (backwardChecks a out)
 unfolding backwardChecks numberOf
 backward-numbers a out = omega arith
 
-step-numbers : (work : List ℤ) (n : ℕ) → Numbers (λ k. (1 ≤ k) × (k ≤ 10)) (stepChecks work n)
+step-numbers : (work : List ℤ) (n : ℕ) → Numbers (λ k. 1 ≤ k) (stepChecks work n)
 unfolding stepChecks pointChecks numberOf
 step-numbers work n = omega arith
 
@@ -89,15 +90,15 @@ step-refuses work n k p = rw (step-says work n .0, step-says work n .1) (answer-
 
 -- forward answers 0 exactly when its checks accept
 pub forward-accepts-exactly : (a : List ℤ) (work out : ℕ) → (forwardAnswer a work out .answer ≡ 0) ↔ (verdict (forwardChecks a work out) ≡ accepted)
-forward-accepts-exactly a work out = rw (forward-says a work out .0) (answer-accepts (forwardChecks a work out) 8 (forward-numbers a work out))
+forward-accepts-exactly a work out = rw (forward-says a work out .0) (answer-accepts (forwardChecks a work out) (forward-numbers a work out))
 
 -- so does backward
 pub backward-accepts-exactly : (a : List ℤ) (out : ℕ) → (backwardAnswer a out .answer ≡ 0) ↔ (verdict (backwardChecks a out) ≡ accepted)
-backward-accepts-exactly a out = rw (backward-says a out .0) (answer-accepts (backwardChecks a out) 9 (backward-numbers a out))
+backward-accepts-exactly a out = rw (backward-says a out .0) (answer-accepts (backwardChecks a out) (backward-numbers a out))
 
 -- so does a step
 pub step-accepts-exactly : (work : List ℤ) (n : ℕ) → (stepNumber (stepAnswer work n) ≡ 0) ↔ (verdict (stepChecks work n) ≡ accepted)
-step-accepts-exactly work n = rw (step-says work n .0) (answer-accepts (stepChecks work n) 10 (step-numbers work n))
+step-accepts-exactly work n = rw (step-says work n .0) (answer-accepts (stepChecks work n) (step-numbers work n))
 
 -- ---- What is accepted
 

@@ -145,7 +145,7 @@ pub accepted-exactly : (checks : List Check) → (verdict checks ≡ accepted) �
 accepted-exactly checks = Iff·trans (accepted-clear checks) (clear-in checks, in-clear checks)
 
 -- a check that is given after checks of which nothing offends is the first given
-pub given-first : (checks : List Check) {r : Check} (more : List Check) {p : ℕ} → AllClear checks → Given r p → FirstGiven (checks ++ (r ∷ more)) (numberOf r) p
+given-first : (checks : List Check) {r : Check} (more : List Check) {p : ℕ} → AllClear checks → Given r p → FirstGiven (checks ++ (r ∷ more)) (numberOf r) p
 given-first [] more h g = this g
 given-first (s ∷ checks) more h g = later (λ p. clear-given (h .0)) (given-first checks more (h .1) g)
 
@@ -162,7 +162,7 @@ abbrev pub Numbers : (ℕ → Type 0) → List Check → Type 0
 Numbers P [] = Unit
 Numbers P (r ∷ checks) = P (numberOf r) × Numbers P checks
 
-pub number-known : {checks : List Check} {k p : ℕ} (P : ℕ → Type 0) → Numbers P checks → FirstGiven checks k p → P k
+number-known : {checks : List Check} {k p : ℕ} (P : ℕ → Type 0) → Numbers P checks → FirstGiven checks k p → P k
 number-known P n (this g) = n .0
 number-known P n (later c f) = number-known P (n .1) f
 
@@ -184,12 +184,12 @@ answer-refuses checks k p = Iff·trans (go (verdict checks), λ e. (ap numberIn 
     go accepted e = absurd (omega arith)
     go (refused n q) e = cc
 
-pub answer-accepts : (checks : List Check) (most : ℕ) → Numbers (λ k. (1 ≤ k) × (k ≤ most)) checks → (numberIn (verdict checks) ≡ 0) ↔ (verdict checks ≡ accepted)
-answer-accepts checks most n = (go (checks-read checks), ap numberIn)
+pub answer-accepts : (checks : List Check) → Numbers (λ k. 1 ≤ k) checks → (numberIn (verdict checks) ≡ 0) ↔ (verdict checks ≡ accepted)
+answer-accepts checks n = (go (checks-read checks), ap numberIn)
   where
     go : {v : Verdict} → Read checks v → numberIn v ≡ 0 → v ≡ accepted
     go (passes h) e = refl
-    go (refuses f) e = absurd (omega (arith, number-known (λ k. (1 ≤ k) × (k ≤ most)) n f))
+    go (refuses f) e = absurd (omega (arith, number-known (λ k. 1 ≤ k) n f))
 
 -- ---- The last check
 

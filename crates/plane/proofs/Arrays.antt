@@ -1,30 +1,44 @@
 -- Points and rectangles as arrays of numbers, and back.
-use mathlib.Core.Path.{_≡_, refl, ap}
-use Prim.Native.Nat.{_*_, _/_}
+use mathlib.Core.Path.{_≡_, refl, ap, _∙_}
+use Prim.Native.Nat.{ℕ, zero, suc, _+_, _*_, _/_, _<_, _≤_}
+use native.Mathlib.Numerals.{add-one}
 use native.Mathlib.Omega.{arith}
 use mathlib.Core.List.{List, [], _∷_, _++_}
-use lib.ListN.{length}
-use lib.IntN.{ℤ}
+use lib.ListN.{length, getD, take, drop}
+use lib.Seq.{take-all, take-at}
+use lib.IntN.{ℤ, pos}
 use Rattle.plane.specs.declared.Point.{Point}
 use Rattle.plane.specs.declared.Rect.{Rect}
-use Rattle.plane.specs.Words.{pointsOf, flatPoints, rectsOf, flatRects}
+use Rattle.plane.specs.Words.{origin, pointsOf, flatPoints, rectsOf, flatRects}
 
--- an array has half as many points as numbers, and a quarter as many rectangles
+-- ---- Points
+
+-- an array has half as many points as numbers
 pub length-points : (a : List ℤ) → length (pointsOf a) ≡ length a / 2
 unfolding pointsOf
 length-points [] = refl
 length-points (x ∷ []) = refl
 length-points (x ∷ y ∷ rest) = let h = length-points rest in omega arith
 
-pub length-rects : (a : List ℤ) → length (rectsOf a) ≡ length a / 4
-unfolding rectsOf
-length-rects [] = refl
-length-rects (x ∷ []) = refl
-length-rects (x ∷ y ∷ []) = refl
-length-rects (x ∷ y ∷ w ∷ []) = refl
-length-rects (x ∷ y ∷ w ∷ h ∷ rest) = let i = length-rects rest in omega arith
+-- two numbers more for one place more
+pub twice-suc : (i : ℕ) → 2 * suc i ≡ suc (suc (2 * i))
+twice-suc i = omega arith
 
--- points, and rectangles, written as an array are read back
+-- the point at place i has the numbers at 2i and 2i + 1
+pub point-numbers : (a : List ℤ) (i : ℕ) → 2 * i + 1 < length a → getD (pointsOf a) i origin ≡ record { x = getD a (2 * i) (pos 0); y = getD a (2 * i + 1) (pos 0) }
+unfolding pointsOf
+point-numbers [] i h = absurd (omega arith)
+point-numbers (x ∷ []) i h = absurd (omega arith)
+point-numbers (x ∷ y ∷ rest) zero h = refl
+point-numbers (x ∷ y ∷ rest) (suc i) h = rw (add-one, twice-suc i) (point-numbers rest i (omega arith) ∙ rw add-one)
+
+-- points as an array are twice as many numbers
+pub length-flat-points : (ps : List Point) → length (flatPoints ps) ≡ 2 * length ps
+unfolding flatPoints
+length-flat-points [] = refl
+length-flat-points (p ∷ ps) = let h = length-flat-points ps in omega arith
+
+-- points written as an array are read back
 pub points-flat : (ps : List Point) → pointsOf (flatPoints ps) ≡ ps
 unfolding pointsOf flatPoints
 points-flat [] = refl
@@ -36,17 +50,59 @@ unfolding pointsOf flatPoints
 points-append [] rest = refl
 points-append (p ∷ ps) rest = ap (λ l. p ∷ l) (points-append ps rest)
 
-pub length-flat-points : (ps : List Point) → length (flatPoints ps) ≡ 2 * length ps
+-- points after points are their numbers after theirs
+pub flat-append : (ps qs : List Point) → flatPoints (ps ++ qs) ≡ flatPoints ps ++ flatPoints qs
 unfolding flatPoints
-length-flat-points [] = refl
-length-flat-points (p ∷ ps) = let h = length-flat-points ps in omega arith
+flat-append [] qs = refl
+flat-append (p ∷ ps) qs = ap (λ (l : List ℤ). p .x ∷ p .y ∷ l) (flat-append ps qs)
 
+-- an array is its first points and the rest
+pub points-rest : (n : ℕ) (a : List ℤ) → 2 * n ≤ length a → a ≡ flatPoints (take n (pointsOf a)) ++ drop (2 * n) a
+unfolding pointsOf flatPoints
+points-rest zero a h = refl
+points-rest (suc n) [] h = absurd (omega arith)
+points-rest (suc n) (x ∷ []) h = absurd (omega arith)
+points-rest (suc n) (x ∷ y ∷ rest) h = rw (twice-suc n) (ap (λ (l : List ℤ). x ∷ y ∷ l) (points-rest n rest (omega arith)))
+
+-- an array's points as an array are its start: all of it, but for a last number without a partner
+pub points-start : (a : List ℤ) → take (2 * (length a / 2)) a ≡ flatPoints (pointsOf a)
+points-start a =
+    let n : ℕ = length a / 2 in
+    let ps : List Point = pointsOf a in
+    let e : a ≡ flatPoints ps ++ drop (2 * n) a = rw (take-all n ps (omega (arith, length-points a))) at (points-rest n a (omega arith)) in
+    ap (take (2 * n)) e ∙ take-at (flatPoints ps) (drop (2 * n) a) (2 * n) (omega (arith, length-flat-points ps, length-points a))
+
+-- ---- Rectangles
+
+-- an array has a quarter as many rectangles as numbers
+pub length-rects : (a : List ℤ) → length (rectsOf a) ≡ length a / 4
+unfolding rectsOf
+length-rects [] = refl
+length-rects (x ∷ []) = refl
+length-rects (x ∷ y ∷ []) = refl
+length-rects (x ∷ y ∷ w ∷ []) = refl
+length-rects (x ∷ y ∷ w ∷ h ∷ rest) = let i = length-rects rest in omega arith
+
+-- rectangles as an array are four times as many numbers
+pub length-flat-rects : (rs : List Rect) → length (flatRects rs) ≡ 4 * length rs
+unfolding flatRects
+length-flat-rects [] = refl
+length-flat-rects (r ∷ rs) = let h = length-flat-rects rs in omega arith
+
+-- rectangles written as an array are read back
 pub rects-flat : (rs : List Rect) → rectsOf (flatRects rs) ≡ rs
 unfolding rectsOf flatRects
 rects-flat [] = refl
 rects-flat (r ∷ rs) = ap (λ l. r ∷ l) (rects-flat rs)
 
-pub length-flat-rects : (rs : List Rect) → length (flatRects rs) ≡ 4 * length rs
+-- rectangles at the start of an array are its first rectangles
+pub rects-append : (rs : List Rect) (rest : List ℤ) → rectsOf (flatRects rs ++ rest) ≡ rs ++ rectsOf rest
+unfolding rectsOf flatRects
+rects-append [] rest = refl
+rects-append (r ∷ rs) rest = ap (λ l. r ∷ l) (rects-append rs rest)
+
+-- rectangles after rectangles are their numbers after theirs
+pub flat-rects-append : (rs ts : List Rect) → flatRects (rs ++ ts) ≡ flatRects rs ++ flatRects ts
 unfolding flatRects
-length-flat-rects [] = refl
-length-flat-rects (r ∷ rs) = let h = length-flat-rects rs in omega arith
+flat-rects-append [] ts = refl
+flat-rects-append (r ∷ rs) ts = ap (λ (l : List ℤ). r .x ∷ r .y ∷ r .w ∷ r .h ∷ l) (flat-rects-append rs ts)

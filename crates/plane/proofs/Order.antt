@@ -8,9 +8,9 @@ use mathlib.Core.Bool.{true, false, true≢false, false≢true}
 use lib.Dec.{ltb}
 use borrow.Author.Tests.{ltb-true, ltb-false, leb-true, leb-false, eqb-true, eq-eqb}
 use lib.IntN.{ℤ, pos, negsuc, subℕ, predℤ, _+ℤ_, _-ℤ_, +ℤ-comm, -ℤ-+ℤ-cancel}
-use lib.Signed.{leZ, ltZ}
-use Rattle.plane.specs.Words.{eqZ}
-use Rattle.plane.proofs.Bools.{by, by-no, cond-case}
+use lib.Signed.{mag, leZ, ltZ}
+use Rattle.plane.specs.Words.{eqZ, lowEnd, highEnd, inRange}
+use Rattle.plane.proofs.Bools.{by, by-no, and-parts, cond-case}
 
 -- ---- A number as a difference
 
@@ -138,3 +138,21 @@ unfolding up dn
 pred-up (pos zero) = omega arith
 pred-up (pos (suc n)) = omega arith
 pred-up (negsuc n) = omega arith
+
+-- ---- The range
+
+-- a number at most n above 0 and at most n below has magnitude at most n
+mag-most : (z : ℤ) (n : ℕ) → up z ≤ dn z + n → dn z ≤ up z + n → mag z ≤ n
+unfolding up dn
+mag-most (pos m) n g h = omega arith
+mag-most (negsuc m) n g h = omega arith
+
+-- two numbers in range are at most 2·10^9 apart
+pub apart-most : (a b : ℤ) → inRange a ≡ true → inRange b ≡ true → mag (b -ℤ a) ≤ 2_000_000_000
+unfolding inRange up dn
+apart-most a b e f =
+    let g = and-parts (leZ lowEnd a) (leZ a highEnd) e in
+    let h = and-parts (leZ lowEnd b) (leZ b highEnd) f in
+    let s = add-up a (b -ℤ a) in
+    let t = far-side a b in
+    mag-most (b -ℤ a) 2_000_000_000 (omega order) (omega order)

@@ -1,15 +1,17 @@
 -- Laws of points: when two are the same, and the order of y, then x.
-use mathlib.Core.Path.{_≡_, refl}
-use mathlib.Core.Bool.{Bool, true, false, _&&_, _||_, true≢false, false≢true, or-true}
+use mathlib.Core.Path.{_≡_, refl, ap, _∙_}
+use Prim.Native.Nat.{_≤_}
+use mathlib.Core.Bool.{Bool, true, false, not, _&&_, _||_, xor, true≢false, false≢true, or-true, and-true, and-false}
 use mathlib.Core.List.{List, Memᴰ·cast, List·Memᴰ as In}
 use lib.IntN.{ℤ}
 use lib.Signed.{leZ, ltZ}
 use Rattle.plane.specs.declared.Point.{Point}
-use Rattle.plane.specs.Lists.{any}
+use Rattle.plane.specs.Lists.{any, count, odd}
 use Rattle.plane.specs.Words.{eqZ, same, before}
 use Rattle.plane.proofs.Order.{order, eqZ-is, eqZ-refl}
-use Rattle.plane.proofs.Bools.{clash, by, and-parts, and-make}
+use Rattle.plane.proofs.Bools.{clash, by, and-parts, and-make, xor-back}
 use Rattle.plane.proofs.Sums.{any-find}
+use Rattle.plane.proofs.Parity.{odd-cong, odd-none, odd-split, odd-one}
 
 -- ---- The same point
 
@@ -27,6 +29,21 @@ same-refl p = and-make _ _ (eqZ-refl (p .x)) (eqZ-refl (p .y))
 pub same-in : (p : Point) (ps : List Point) → any (same p) ps ≡ true → In p ps
 same-in p ps e = let r = any-find (same p) ps e in Memᴰ·cast (same-is p (r .0) (r .2)) (r .1)
 
+-- without a point that stands once, the parity of a test changes just where that point passes
+pub odd-without : (f : Point → Bool) {k : Point} {ps : List Point} → In k ps → count (same k) ps ≤ 1 → xor (f k) (odd f ps) ≡ odd (λ q. not (same k q) && f q) ps
+odd-without f {k} {ps} n o = ap (xor (f k)) (odd-split (same k) f ps ∙ ap (λ b. xor b (odd (λ q. not (same k q) && f q) ps)) alone) ∙ xor-back (f k) _
+  where
+    at-k : (q : Point) (b : Bool) → same k q ≡ b → (b && f q) ≡ (b && f k)
+    at-k q true d = rw (same-is k q d)
+    at-k q false d = refl
+
+    either : (b : Bool) → odd (λ q. same k q && b) ps ≡ b
+    either true = odd-cong _ (same k) ps (λ q i. and-true (same k q)) ∙ odd-one (same k) n (same-refl k) o
+    either false = odd-none _ ps (λ q i. and-false (same k q))
+
+    alone : odd (λ q. same k q && f q) ps ≡ f k
+    alone = odd-cong _ (λ q. same k q && f k) ps (λ q i. at-k q (same k q) refl) ∙ either (f k)
+
 -- ---- The order: q is k or comes after it
 
 pub data After (q k : Point) : Type 0 where
@@ -41,6 +58,11 @@ after-trans (above h) (above g) = above (omega order)
 after-trans (above h) (along e g) = above (omega order)
 after-trans (along e h) (above g) = above (omega order)
 after-trans (along e h) (along d g) = along (omega order) (omega order)
+
+-- what is at or after k is not below its row
+pub after-row : {q k : Point} → After q k → leZ (k .y) (q .y) ≡ true
+after-row (above h) = omega order
+after-row (along e h) = omega order
 
 pub after-no : (q k : Point) → before q k ≡ false → After q k
 unfolding before
@@ -91,7 +113,7 @@ pub before-connected : (p q : Point) → before p q ≡ false → same p q ≡ f
 before-connected p q e d = by (before q p) (λ f. clash (after-both p q (after-no q p f) (after-no p q e)) d)
 
 -- a point does not come before one that it is at or after
-before-after : (k q : Point) → before k q ≡ true → After k q → ⊥
+pub before-after : (k q : Point) → before k q ≡ true → After k q → ⊥
 before-after k q e a = clash (rw (same-is k q (after-both k q (after-yes k q e) a)) at e) (before-self q)
 
 -- the order is transitive

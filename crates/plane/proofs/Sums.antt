@@ -18,9 +18,10 @@ module _ {A : Type 0} where
   sum-append w [] m = omega arith
   sum-append w (a ∷ l) m = let ih = sum-append w l m in omega arith
 
-  pub sum-one : (w : A → ℕ) (a : A) → sum w (a ∷ []) ≡ w a
+  -- with one more element at the end
+  pub sum-last-added : (w : A → ℕ) (l : List A) (a : A) → sum w (l ++ (a ∷ [])) ≡ sum w l + w a
   unfolding sum
-  sum-one w a = omega arith
+  sum-last-added w l a = omega (arith, sum-append w l (a ∷ []))
 
   sum-set : (w : A → ℕ) (l : List A) (i : ℕ) (a d : A) → i < length l → sum w (set l i a) + w (getD l i d) ≡ sum w l + w a
   unfolding sum

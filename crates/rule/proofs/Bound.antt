@@ -1,7 +1,7 @@
 -- The number of steps. Each point weighs as much as there are different rows above it. A step takes two points of K's row away and adds
 -- at most two of the stop row, which is higher, so the weights' sum falls by two or more: the run ends, after at most (n/2)(r - 1) steps.
 use mathlib.Core.Path.{_≡_, refl, sym, ap, _∙_}
-use Prim.Native.Nat.{ℕ, suc, _+_, _-_, _*_, _/_, _≤_, _<_}
+use Prim.Native.Nat.{ℕ, zero, suc, _+_, _-_, _*_, _/_, _≤_, _<_}
 use native.Mathlib.Omega.{arith}
 use native.Mathlib.Nat.{mul-le-mul-left}
 use mathlib.Core.Bool.{Bool, true, false, not, _&&_, _||_, and-true}
@@ -22,7 +22,7 @@ use Rattle.rule.specs.Rule.{toggleFour, step, run, leftAfter, enough, ru
 use Rattle.rule.specs.Table.{Accepted}
 use Rattle.rule.proofs.Picks.{Picked, level, higher, picks}
 use Rattle.rule.proofs.Inside.{even-by-rows}
-use Rattle.rule.proofs.Steps.{sum-step, step-all, Steps, stay, more, steps, steps-accepted, spent}
+use Rattle.rule.proofs.Steps.{sum-step, step-all, step-keeps-accepted, Steps, stay, more, steps, steps-accepted, spent}
 
 -- ---- The different rows
 
@@ -134,6 +134,46 @@ rule-ends ps acc =
 pub rule-steps : (ps : List Point) → Accepted ps → Steps ps (ruleList ps) []
 unfolding ruleList
 rule-steps ps acc = rw (rule-ends ps acc) at (steps (enough ps) ps acc)
+
+-- ---- The list, step by step
+
+-- no points make no rectangles
+run-none : (n : ℕ) → run step n [] ≡ []
+unfolding run
+run-none zero = refl
+run-none (suc n) = refl
+
+-- two runs that leave no points make the same rectangles
+run-same : (m n : ℕ) (ps : List Point) → leftAfter step m ps ≡ [] → leftAfter step n ps ≡ [] → run step m ps ≡ run step n ps
+unfolding run leftAfter
+run-same zero n ps e d = rw e (sym (run-none n))
+run-same (suc m) zero ps e d = rw d
+run-same (suc m) (suc n) [] e d = refl
+run-same (suc m) (suc n) (p ∷ qs) e d = ap (λ (rs : List Rect). step (p ∷ qs) .rect ∷ rs) (run-same m n (step (p ∷ qs) .left) e d)
+
+-- so their list is empty
+pub rule-none : ruleList [] ≡ []
+unfolding ruleList
+rule-none = run-none (enough [])
+
+-- the list is the rectangle of the first step, then the list of the points that it leaves
+pub rule-next : (p : Point) (qs : List Point) → Accepted (p ∷ qs) → ruleList (p ∷ qs) ≡ step (p ∷ qs) .rect ∷ ruleList (step (p ∷ qs) .left)
+unfolding ruleList run leftAfter
+rule-next p qs acc =
+    let left : List Point = step (p ∷ qs) .left in
+    run-same (enough (p ∷ qs)) (suc (enough left)) (p ∷ qs) (rule-ends (p ∷ qs) acc) (rule-ends left (step-keeps-accepted p qs acc))
+
+-- so many steps make at most so many rectangles
+run-most : (n : ℕ) (ps : List Point) → length (run step n ps) ≤ n
+unfolding run
+run-most zero ps = omega arith
+run-most (suc n) [] = omega arith
+run-most (suc n) (p ∷ qs) = let h = run-most n (step (p ∷ qs) .left) in omega arith
+
+-- the list has at most as many rectangles as the square of the number of points
+pub rule-most : (ps : List Point) → length (ruleList ps) ≤ enough ps
+unfolding ruleList
+rule-most ps = run-most (enough ps) ps
 
 -- ---- At most (n/2)(r - 1) rectangles, for n points on r different rows
 

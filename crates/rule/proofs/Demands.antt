@@ -14,9 +14,9 @@ use Rattle.plane.proofs.Arrays.{length-points, points-flat, length-flat-points,
 use Rattle.plane.proofs.Rising.{inOrder-length}
 use Rattle.rule.specs.Rule.{ruleList}
 use Rattle.rule.specs.Back.{backList}
-use Rattle.rule.specs.Table.{Verdict, accepted, refused, verdict, forwardChecks, backwardChecks, Accepted, AcceptedRects}
+use Rattle.rule.specs.Table.{Verdict, accepted, refused, verdict, forwardChecks, backwardChecks, Accepted, AcceptedRects, ForwardAccepted}
 use Rattle.rule.specs.Answers.{forwardSays, forwardAnswer, backwardAnswer, backwardOut}
-use Rattle.rule.proofs.Refusals.{ForwardAccepted, forward-accepts-exactly, forward-accepted, backward-accepts-exactly, backward-accepted}
+use Rattle.rule.proofs.Refusals.{forward-accepts-exactly, forward-accepted, backward-accepts-exactly, backward-accepted}
 use Rattle.rule.proofs.Cover.{rule-covers}
 use Rattle.rule.proofs.Canon.{rule-canon}
 use Rattle.rule.proofs.Rising.{rule-rects}
@@ -27,10 +27,12 @@ use Rattle.rule.proofs.RoundTrip.{forward-backward, backward-forward}
 -- ---- Forward, where it answers 0
 
 module _ (a : List ℤ) (work out : ℕ) (done : forwardAnswer a work out .answer ≡ 0) where
-  forward-verdict : verdict (forwardChecks a work out) ≡ accepted
+  -- the checks accept
+  pub forward-verdict : verdict (forwardChecks a work out) ≡ accepted
   forward-verdict = forward-accepts-exactly a work out .0 done
 
-  array-accepted : Accepted (pointsOf a)
+  -- the points are accepted
+  pub array-accepted : Accepted (pointsOf a)
   array-accepted = forward-accepted a work out .0 forward-verdict .points
 
   -- demand 3, first half: each unit cell is in one rectangle of the list if the points mark it, in none otherwise

@@ -2,26 +2,27 @@
 -- what is untouched.
 use mathlib.Core.Path.{_≡_, refl, sym, ap, _∙_}
 use mathlib.Core.Logic.{_≢_, _⊎_, inl, inr}
-use Prim.Native.Nat.{ℕ, _-_, _*_, _/_, _≤_}
+use Prim.Native.Nat.{ℕ, suc, _+_, _-_, _*_, _/_, _≤_, _<_}
 use native.Mathlib.Omega.{arith}
 use native.Mathlib.Nat.{sub-zero}
 use mathlib.Core.List.{List, [], _∷_, _++_, append-assoc}
-use lib.ListN.{length, take, drop, replicate, length-append, length-take, length-drop, length-replicate}
-use lib.Seq.{take-append-seam, drop-append-seam}
+use lib.ListN.{length, take, drop, replicate, length-append, length-take, length-drop, length-replicate, replicate-append-replicate}
+use lib.Seq.{take-append-seam, drop-append-seam, drop-append-add, drop-at, drop-drop, sets, sets-eq}
 use lib.IntN.{ℤ, pos}
 use lib.Dec.{eqb}
-use borrow.Author.Tests.{eqb-true, eq-eqb, ne-eqb}
+use borrow.Author.Tests.{eqb-true, le-ltb, ne-eqb}
 use Rattle.plane.specs.declared.Point.{Point}
-use Rattle.plane.specs.Words.{pointsOf, flatPoints, rectsOf, flatRects}
+use Rattle.plane.specs.Words.{origin, pointsOf, flatPoints, rectsOf, flatRects}
 use Rattle.plane.proofs.Bools.{cond-case}
-use Rattle.plane.proofs.Arrays.{length-points, points-append, length-flat-points, length-flat-rects}
+use Rattle.plane.proofs.Arrays.{length-points, points-rest, points-append, flat-append, length-flat-points, length-flat-rects}
+use Rattle.rule.specs.declared.StepAnswer.the-variants.{Rectangle, Refused}
 use Rattle.rule.specs.Rule.{Taken, step, ruleList}
 use Rattle.rule.specs.Back.{backList}
-use Rattle.rule.specs.Table.{Verdict, accepted, refused, verdict, forwardChecks, backwardChecks, stepChecks, Accepted}
+use Rattle.rule.specs.Table.{numberOf, placeGiven, Verdict, accepted, refused, verdict, forwardChecks, backwardChecks, stepChecks, StepAccepted}
 use Rattle.rule.specs.Answers.{written, workOf, forwardSays, forwardAnswer, forwardOut, drained, forwardWork, backwardSays, backwardAnswer, backwardOut, stepSays, stepAnswer, stepLeaves, stepWork, stepNumber, stepPlace, stepValues}
 use Rattle.rule.proofs.Verdicts.{numberIn, placeIn}
-use Rattle.rule.proofs.Refusals.{forward-says, backward-says, step-says, forward-accepts-exactly, forward-accepted, forward-lacks-room, backward-accepts-exactly, backward-accepted, step-accepts-exactly, step-accepted}
-use Rattle.rule.proofs.Steps.{step-never-grows}
+use Rattle.rule.proofs.Refusals.{forward-says, backward-says, step-says, forward-accepts-exactly, forward-accepted, forward-lacks-room, forward-needs, backward-accepts-exactly, backward-accepted, step-accepts-exactly, step-accepted}
+use Rattle.rule.proofs.Steps.{accepted-step}
 
 -- ---- An output
 
@@ -37,9 +38,17 @@ written-refused : (v : Verdict) (result out : List ℤ) → numberIn v ≢ 0 →
 written-refused accepted result out n = absurd (n refl)
 written-refused (refused k p) result out n = refl
 
-written-length : (v : Verdict) (result out : List ℤ) → (v ≡ accepted → length result ≤ length out) → length (written v result out) ≡ length out
+-- its length stays, where what is written has room
+pub written-length : (v : Verdict) (result out : List ℤ) → (v ≡ accepted → length result ≤ length out) → length (written v result out) ≡ length out
 written-length accepted result out h = let k = h refl in omega (arith, length-append result (drop (length result) out), length-drop (length result) out)
 written-length (refused k p) result out h = refl
+
+-- more numbers stored after the result are a longer result
+pub written-more : (result more out : List ℤ) → length result + length more ≤ length out → sets (written accepted result out) (length result) more ≡ written accepted (result ++ more) out
+written-more result more out h =
+    let i : ℕ = length result in
+    let rest : List ℤ = drop i out in
+    rw (sets-eq more (result ++ rest) i (omega (arith, length-append result rest, length-drop i out)), take-append-seam result rest, drop-append-add result rest (length more), drop-drop (length more) i out, length-append result more)
 
 -- ---- A working array
 
@@ -65,13 +74,45 @@ module _ (n : ℕ) (ps : List Point) (work : List ℤ) (few : length ps ≤ n) w
   work-past = rw (work-parts, ← used-length) (drop-append-seam used (drop (length used) work))
 
   -- its length stays
-  work-length : 2 * n ≤ length work → length (workOf n ps work) ≡ length work
+  pub work-length : 2 * n ≤ length work → length (workOf n ps work) ≡ length work
   work-length h = rw work-parts (omega (arith, length-append used (drop (2 * n) work), used-length, length-drop (2 * n) work))
 
   -- its points are those
   pub work-points : take (length ps) (pointsOf (workOf n ps work)) ≡ ps
   unfolding workOf
   work-points = rw (points-append ps (replicate (2 * (n - length ps)) (pos 0) ++ drop (2 * n) work)) (take-append-seam ps _)
+
+-- with the points that it has it is the same array
+pub work-held : (n : ℕ) (work : List ℤ) → 2 * n ≤ length work → work ≡ workOf n (take n (pointsOf work)) work
+unfolding workOf
+work-held n work h =
+    let e : 2 * (n - length (take n (pointsOf work))) ≡ 0 = omega (arith, length-take n (pointsOf work), length-points work) in
+    rw e (points-rest n work h)
+
+-- a point (0, 0) after its points is zeros
+pub work-origin : (n : ℕ) (ps : List Point) (work : List ℤ) → length ps < n → workOf n (ps ++ (origin ∷ [])) work ≡ workOf n ps work
+unfolding workOf flatPoints
+work-origin n ps work h =
+    let e : 2 * (n - length ps) ≡ suc (suc (2 * (n - length (ps ++ (origin ∷ []))))) = omega (arith, length-append ps (origin ∷ [])) in
+    rw (e, flat-append ps (origin ∷ [])) (append-assoc (flatPoints ps) (pos 0 ∷ pos 0 ∷ []) _)
+
+zeros-join : (m n : ℕ) (rest : List ℤ) → replicate (m + n) (pos 0) ++ rest ≡ replicate m (pos 0) ++ (replicate n (pos 0) ++ rest)
+zeros-join m n rest = rw (← replicate-append-replicate m n (pos 0)) (append-assoc (replicate m (pos 0)) (replicate n (pos 0)) rest)
+
+-- the first m of its n places, where those hold the points, and what comes after
+work-cut : (m n : ℕ) (ps : List Point) (work : List ℤ) (few : length ps ≤ m) → m ≤ n → workOf n ps work ≡ used m ps work few ++ (replicate (2 * (n - m)) (pos 0) ++ drop (2 * n) work)
+unfolding workOf used
+work-cut m n ps work few le =
+    let e : 2 * (n - length ps) ≡ 2 * (m - length ps) + 2 * (n - m) = omega arith in
+    rw (e, zeros-join (2 * (m - length ps)) (2 * (n - m)) (drop (2 * n) work))
+    (sym (append-assoc (flatPoints ps) (replicate (2 * (m - length ps)) (pos 0)) (replicate (2 * (n - m)) (pos 0) ++ drop (2 * n) work)))
+
+-- with other points in its first m places it is the same working array with those points
+pub work-again : (m n : ℕ) (ps qs : List Point) (work : List ℤ) → length ps ≤ m → length qs ≤ m → m ≤ n → workOf m qs (workOf n ps work) ≡ workOf n qs work
+unfolding used
+work-again m n ps qs work h i le =
+    rw (work-parts m qs (workOf n ps work) i, work-cut m n qs work i le, work-cut m n ps work h le)
+    (ap (λ (l : List ℤ). used m qs work i ++ l) (drop-at (used m ps work h) _ (2 * m) (used-length m ps work h)))
 
 -- ---- Forward
 
@@ -124,19 +165,15 @@ module _ (a work : List ℤ) (out : ℕ) where
         rest = rw (length-replicate (2 * n) (pos 0)) (work-past n [] work (omega arith));
       }
 
-  -- with 0 and 8 its first 2n numbers are 0 and the rest unchanged
-  pub forward-zeroed-work : (forwardAnswer a (length work) out .answer ≡ 0) ⊎ (forwardAnswer a (length work) out .answer ≡ 8) → Starts (replicate (2 * (length a / 2)) (pos 0)) work (forwardWork a work out)
+  -- with 0 and 8 it is drained
+  pub forward-drained-work : (forwardAnswer a (length work) out .answer ≡ 0) ⊎ (forwardAnswer a (length work) out .answer ≡ 8) → forwardWork a work out ≡ workOf (length a / 2) [] work
   unfolding forwardWork
-  forward-zeroed-work h = go (verdict (forwardChecks a (length work) out)) (says h)
-    where
-      says : (forwardAnswer a (length work) out .answer ≡ 0) ⊎ (forwardAnswer a (length work) out .answer ≡ 8) → (verdict (forwardChecks a (length work) out) ≡ accepted) ⊎ (numberIn (verdict (forwardChecks a (length work) out)) ≡ 8)
-      says (inl e) = inl (forward-accepts-exactly a (length work) out .0 e)
-      says (inr e) = inr (sym (forward-says a (length work) out .0) ∙ e)
+  forward-drained-work (inl e) = rw (forward-accepts-exactly a (length work) out .0 e)
+  forward-drained-work (inr e) = rw (forward-needs a (length work) out e)
 
-      go : (v : Verdict) → (v ≡ accepted) ⊎ (numberIn v ≡ 8) → Starts (replicate (2 * (length a / 2)) (pos 0)) work (drained v (length a / 2) work)
-      go v (inl e) = rw e zeroed
-      go accepted (inr e) = zeroed
-      go (refused k p) (inr e) = rw (eq-eqb k 8 e) zeroed
+  -- so its first 2n numbers are 0 and the rest unchanged
+  pub forward-zeroed-work : (forwardAnswer a (length work) out .answer ≡ 0) ⊎ (forwardAnswer a (length work) out .answer ≡ 8) → Starts (replicate (2 * (length a / 2)) (pos 0)) work (forwardWork a work out)
+  forward-zeroed-work h = rw (forward-drained-work h) zeroed
 
   -- its length stays
   pub forward-work-length : length (forwardWork a work out) ≡ length work
@@ -197,11 +234,10 @@ module _ (work : List ℤ) (n : ℕ) where
 
   -- an accepted step leaves no more points than it was given
   step-few : verdict (stepChecks work n) ≡ accepted → length (step (take n (pointsOf work)) .left) ≤ n
-  step-few v = let c = step-accepted work n .0 v in go (take n (pointsOf work)) (c .points) (omega (arith, length-take n (pointsOf work), length-points work, c .working)) (c .some-left)
-    where
-      go : (ps : List Point) → Accepted ps → length ps ≡ n → 1 ≤ n → length (step ps .left) ≤ n
-      go [] acc e h = absurd (omega arith)
-      go (p ∷ ps) acc e h = let g = step-never-grows p ps acc in omega arith
+  step-few v =
+      let c = step-accepted work n .0 v in
+      let e : length (take n (pointsOf work)) ≡ n = omega (arith, length-take n (pointsOf work), length-points work, c .working) in
+      rw e at (accepted-step (take n (pointsOf work)) (rw e (c .some-left)) (c .points) .1)
 
   -- with a rectangle the working array has the points left, zeros up to twice the count given, and past that it is unchanged
   pub step-leaves : stepNumber (stepAnswer work n) ≡ 0 → let left = step (take n (pointsOf work)) .left in (take (2 * n) (stepWork work n) ≡ flatPoints left ++ replicate (2 * (n - length left)) (pos 0)) × (drop (2 * n) (stepWork work n) ≡ drop (2 * n) work)
@@ -219,3 +255,13 @@ module _ (work : List ℤ) (n : ℕ) where
       go : (v : Verdict) (t : Taken) → (v ≡ accepted → (length (t .left) ≤ n) × (2 * n ≤ length work)) → length (stepLeaves v t n work) ≡ length work
       go accepted t h = work-length n (t .left) work (h refl .0) (h refl .1)
       go (refused k p) t h = refl
+
+-- with no points left a step is refused, DRAINED, and the working array is unchanged
+pub drained-step : (work : List ℤ) → (stepAnswer work 0 ≡ Refused 10 0) × (stepWork work 0 ≡ work)
+unfolding stepAnswer stepWork stepChecks verdict placeGiven numberOf
+drained-step work = rw (le-ltb (length work) 0 (omega arith)) (refl, refl)
+
+-- an accepted step gives its rectangle and the number of points that it leaves in the working array
+pub taken-step : (work : List ℤ) (n : ℕ) → StepAccepted work n → let t = step (take n (pointsOf work)) in (stepAnswer work n ≡ Rectangle (t .rect) (length (t .left))) × (stepWork work n ≡ workOf n (t .left) work)
+unfolding stepAnswer stepWork
+taken-step work n acc = rw (step-accepted work n .1 acc) (refl, refl)

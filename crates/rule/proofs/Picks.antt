@@ -1,9 +1,11 @@
 -- K, L and M at an accepted list that is not empty: they exist, and are what document 01 says.
 use mathlib.Core.Path.{_≡_, refl, sym, _∙_, subst}
-use Prim.Native.Nat.{_≤_}
+use Prim.Native.Nat.{_≤_, _<_}
+use native.Mathlib.Omega.{arith}
 use mathlib.Core.Bool.{Bool, true, false, not, cond, _&&_}
 use mathlib.Core.List.{List, [], _∷_, List·Memᴰ as In, List·Memᴰ·head as head, List·Memᴰ·tail as tail}
 use mathlib.Core.Option.{Option, none, some, Option·getD}
+use lib.ListN.{length}
 use lib.IntN.{ℤ}
 use lib.Signed.{leZ, ltZ}
 use borrow.Author.Tests.{not-true}
@@ -11,14 +13,25 @@ use Rattle.plane.specs.declared.Point.{Point}
 use Rattle.plane.specs.Lists.{count, odd}
 use Rattle.plane.specs.Words.{origin, eqZ, same, onRow, inColumn, before}
 use Rattle.plane.proofs.Order.{order, eqZ-is, eqZ-refl}
-use Rattle.plane.proofs.Bools.{by, by-no, and-parts, and-make, clash, xor-same}
+use Rattle.plane.proofs.Bools.{by, by-no, and-parts, and-make, clash, xor-false}
 use Rattle.plane.proofs.Sums.{any-in}
-use Rattle.plane.proofs.Parity.{odd-cong, odd-find, odd-split, odd-one}
-use Rattle.plane.proofs.Points.{same-is, same-refl, After, above, along, after-refl, after-trans, after-no, after-yes, after-both}
-use Rattle.rule.specs.Rule.{orFound, firstOf, pickK, pickL, pickM, rightOf, over, stops, stopper}
+use Rattle.plane.proofs.Parity.{odd-find}
+use Rattle.plane.proofs.Points.{same-is, odd-without, After, above, along, after-refl, after-trans, after-row, after-no, after-yes, after-both, before-after, before-trans}
+use Rattle.rule.specs.Rule.{earlier, orFound, firstOf, pickK, pickL, pickM, rightOf, over, stops, stopper}
 use Rattle.rule.specs.Table.{Accepted}
 
 -- ---- The first point that passes a test
+
+-- the earliest of three is that of the earlier of two and the third
+pub earlier-assoc : (p q : Point) (o : Option Point) → earlier (earlier p (some q)) o ≡ earlier p (some (earlier q o))
+earlier-assoc p q none = refl
+earlier-assoc p q (some r) = go (before r q) refl (before q p) refl
+  where
+    go : (b : Bool) → before r q ≡ b → (c : Bool) → before q p ≡ c → earlier (cond c q p) (some r) ≡ earlier p (some (cond b r q))
+    go true e true d = rw (e, before-trans r q p e d)
+    go true e false d = refl
+    go false e true d = rw (e, d)
+    go false e false d = rw (d, by-no (before r p) (λ f. before-after r p f (after-trans (after-no r q e) (after-no q p d))))
 
 -- k is in the list and passes, and every point of the list that passes is k or after it
 pub record IsFirst (f : Point → Bool) (ps : List Point) (k : Point) : Type 0 where
@@ -67,7 +80,7 @@ first f (p ∷ ps) = go (f p) refl (firstOf f ps) (first f ps)
         choose false l = thing (alone e (λ q n g. after-trans (t .least q n g) (after-no k p l)))
 
 -- where some point passes, the first is found
-first-found : (f : Point → Bool) (ps : List Point) (d : Point) {q : Point} → In q ps → f q ≡ true → IsFirst f ps (Option·getD (firstOf f ps) d)
+pub first-found : (f : Point → Bool) (ps : List Point) (d : Point) {q : Point} → In q ps → f q ≡ true → IsFirst f ps (Option·getD (firstOf f ps) d)
 first-found f ps d {q} n e = go (firstOf f ps) (first f ps)
   where
     go : (o : Option Point) → First f ps o → IsFirst f ps (Option·getD o d)
@@ -119,11 +132,10 @@ module _ {ps : List Point} {k l : Point} {m : ℤ} (c : Picked ps k l m) where
   -- no row of a point between K's and M stops
   pub clear : (q : Point) → In q ps → ltZ (k .y) (q .y) ≡ true → ltZ (q .y) m ≡ true → stops ps (k .x) (l .x) (q .y) ≡ false
   unfolding stopper
-  clear q n h g = by-no (stops ps (k .x) (l .x) (q .y)) (λ e. go (c .first-m .least q n (and-make (ltZ (k .y) (q .y)) (stops ps (k .x) (l .x) (q .y)) h e)))
-    where
-      go : After q (c .on-m) → ⊥
-      go (above d) = let e = c .row-m in omega order
-      go (along d i) = let e = c .row-m in omega order
+  clear q n h g = by-no (stops ps (k .x) (l .x) (q .y)) (λ e.
+      let r = after-row (c .first-m .least q n (and-make (ltZ (k .y) (q .y)) (stops ps (k .x) (l .x) (q .y)) h e)) in
+      let d = c .row-m in
+      omega order)
 
   -- K and L are two points
   pub apart : same l k ≡ false
@@ -140,15 +152,9 @@ over-make xk xl y q a b c = let d : leZ (q .x) xl ≡ true = omega order in simp
 -- an even test that K passes has another point
 another : (f : Point → Bool) {k : Point} {ps : List Point} → In k ps → count (same k) ps ≤ 1 → f k ≡ true → odd f ps ≡ false → (q : Point) × In q ps × (same k q ≡ false) × (f q ≡ true)
 another f {k} {ps} n o e h =
-    let one : odd (λ q. same k q && f q) ps ≡ true = odd-cong (λ q. same k q && f q) (same k) ps (λ q i. only q (same k q) refl) ∙ odd-one (same k) n (same-refl k) o in
-    let rest : odd (λ q. not (same k q) && f q) ps ≡ true = sym (xor-same _ _ (sym (odd-split (same k) f ps) ∙ h)) ∙ one in
-    let r = odd-find (λ q. not (same k q) && f q) ps rest in
+    let r = odd-find (λ q. not (same k q) && f q) ps (sym (odd-without f n o) ∙ rw (e, h) (xor-false true)) in
     let g = and-parts (not (same k (r .0))) (f (r .0)) (r .2) in
     (r .0, r .1, not-true (same k (r .0)) (g .0), g .1)
-  where
-    only : (q : Point) (b : Bool) → same k q ≡ b → (b && f q) ≡ b
-    only q true d = rw (← same-is k q d) e
-    only q false d = refl
 
 -- two points that differ, on one row or in one column
 apart-x : (k q : Point) → same k q ≡ false → q .y ≡ k .y → After q k → ltZ (k .x) (q .x) ≡ true
@@ -170,14 +176,22 @@ module _ {ps : List Point} {k : Point} (acc : Accepted ps) (f : IsFirst (λ p. t
       let e : q .0 .y ≡ k .y = eqZ-is _ _ (q .3) in
       first-found (rightOf k) ps k (q .1) (and-make _ _ (q .3) (apart-x k (q .0) (q .2) e (f .least (q .0) (q .1) refl)))
 
-  -- K's column is even, so a point stands above K, and stops
-  m-exists : (l : Point) → ltZ (k .x) (l .x) ≡ true → IsFirst (stopper k l ps) ps (Option·getD (firstOf (stopper k l ps) ps) k)
-  unfolding stopper stops onRow inColumn
-  m-exists l r =
+  -- K's column is even, so a point of it stands above K
+  pub above-in-column : (q : Point) × In q ps × (q .x ≡ k .x) × (ltZ (k .y) (q .y) ≡ true)
+  unfolding inColumn
+  above-in-column =
       let q = another (inColumn (k .x)) (f .within) (acc .once k) (eqZ-refl (k .x)) (acc .columns (k .x)) in
       let e : q .0 .x ≡ k .x = eqZ-is _ _ (q .3) in
+      (q .0, q .1, e, apart-y k (q .0) (q .2) e (f .least (q .0) (q .1) refl))
+
+  -- that point stops
+  m-exists : (l : Point) → ltZ (k .x) (l .x) ≡ true → IsFirst (stopper k l ps) ps (Option·getD (firstOf (stopper k l ps) ps) k)
+  unfolding stopper stops onRow
+  m-exists l r =
+      let q = above-in-column in
+      let e = q .2 in
       let inside = any-in (over (k .x) (l .x) (q .0 .y)) (q .1) (over-make (k .x) (l .x) (q .0 .y) (q .0) (eqZ-refl (q .0 .y)) (omega order) (omega order)) in
-      first-found (stopper k l ps) ps k (q .1) (and-make _ _ (apart-y k (q .0) (q .2) e (f .least (q .0) (q .1) refl)) (rw inside))
+      first-found (stopper k l ps) ps k (q .1) (and-make _ _ (q .3) (rw inside))
 
 -- L and M exist, at an accepted list that is not empty
 pub picks : (p : Point) (qs : List Point) → Accepted (p ∷ qs) → let ps = p ∷ qs in Picked ps (pickK ps) (pickL (pickK ps) ps) (pickM (pickK ps) (pickL (pickK ps) ps) ps)
@@ -195,3 +209,8 @@ picks p qs acc =
       first-m = m-exists acc fk l (and-parts (onRow (k .y) l) (ltZ (k .x) (l .x)) (fl .passes) .1);
       row-m = refl;
     }
+
+-- the same of a list with a point or more
+pub picks-some : (ps : List Point) → 0 < length ps → Accepted ps → Picked ps (pickK ps) (pickL (pickK ps) ps) (pickM (pickK ps) (pickL (pickK ps) ps) ps)
+picks-some [] h acc = absurd (omega arith)
+picks-some (p ∷ qs) h acc = picks p qs acc

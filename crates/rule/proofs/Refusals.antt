@@ -1,6 +1,6 @@
 -- The refusals of each entry point, read exactly: its order, when it answers a refusal and where, and what it accepts.
 use mathlib.Core.Path.{_≡_, refl}
-use mathlib.Core.Logic.{_↔_, Iff·trans}
+use mathlib.Core.Logic.{_↔_, Iff·trans, _⊎_, inl, inr}
 use Prim.Native.Nat.{ℕ, suc, _*_, _/_, _%_, _≤_, _<_}
 use native.Mathlib.Omega.{arith}
 use mathlib.Core.Bool.{true, false, not}
@@ -15,9 +15,9 @@ use Rattle.plane.specs.Words.{origin, pointInRange, rectInRange, flat, pointsOf
 use Rattle.plane.proofs.Places.{at-every-place, all-pass, rows-even, columns-even, once-exactly}
 use Rattle.rule.specs.Rule.{Taken, step, ruleList}
 use Rattle.rule.specs.Back.{backList}
-use Rattle.rule.specs.Table.{Check, numberOf, FirstGiven, LENGTH, MANY, WORK, RANGE, RANGE-rects, ROOM, FLAT, pointChecks, forwardChecks, backwardChecks, stepChecks, Verdict, accepted, refused, verdict, Accepted, AcceptedRects}
+use Rattle.rule.specs.Table.{Check, numberOf, FirstGiven, LENGTH, MANY, WORK, RANGE, RANGE-rects, ROOM, FLAT, pointChecks, forwardChecks, backwardChecks, stepChecks, Verdict, accepted, refused, verdict, Accepted, AcceptedRects, ForwardAccepted, BackwardAccepted, StepAccepted}
 use Rattle.rule.specs.Answers.{forwardSays, forwardAnswer, backwardSays, backwardAnswer, stepSays, stepAnswer, stepNumber, stepPlace}
-use Rattle.rule.proofs.Verdicts.{Clear, AllClear, accepted-clear, clear-append, Numbers, numberIn, placeIn, answer-refuses, answer-accepts, lacks-room}
+use Rattle.rule.proofs.Verdicts.{Clear, AllClear, refused-exactly, accepted-clear, clear-append, Numbers, numberIn, placeIn, answer-refuses, answer-accepts, lacks-room}
 
 -- ---- The orders
 
@@ -131,15 +131,7 @@ accepted-rects rs = Iff·trans (accepted-clear (FLAT rs ∷ RANGE-rects rs ∷ [
 multiple-exactly : (rest : ℕ) → (not (eqb rest 0) ≡ false) ↔ (rest ≡ 0)
 multiple-exactly rest = (λ e. eqb-true rest 0 (not-false (eqb rest 0) e), λ e. rw (eq-eqb rest 0 e))
 
--- what forward accepts, of an array, the working array's length and the output's
-pub record ForwardAccepted (a : List ℤ) (work out : ℕ) : Type 0 where
-  pub even : length a % 2 ≡ 0
-  pub few : length a / 2 ≤ 4096
-  pub working : 2 * (length a / 2) ≤ work
-  pub points : Accepted (pointsOf a)
-  pub room : length (ruleList (pointsOf a)) ≤ out / 4
-
--- forward's checks accept exactly that
+-- forward's checks accept exactly what `ForwardAccepted` says
 pub forward-accepted : (a : List ℤ) (work out : ℕ) → (verdict (forwardChecks a work out) ≡ accepted) ↔ ForwardAccepted a work out
 unfolding forwardChecks
 forward-accepted a work out = Iff·trans (accepted-clear (forwardChecks a work out)) (go, back)
@@ -155,14 +147,11 @@ forward-accepted a work out = Iff·trans (accepted-clear (forwardChecks a work o
     back : ForwardAccepted a work out → AllClear (forwardChecks a work out)
     back c = (multiple-exactly (length a % 2) .1 (c .even), (le-ltb 4096 (length a / 2) (c .few), (le-ltb work (2 * (length a / 2)) (c .working), clear-append (pointChecks (pointsOf a)) last .1 (points-clear (pointsOf a) .1 (c .points), (c .room, tt)))))
 
--- what backward accepts, of an array and the output's length
-pub record BackwardAccepted (a : List ℤ) (out : ℕ) : Type 0 where
-  pub even : length a % 4 ≡ 0
-  pub few : length a / 4 ≤ 16384
-  pub rects : AcceptedRects (rectsOf a)
-  pub room : length (backList (rectsOf a)) ≤ out / 2
+-- with other room, if it is enough for the list, forward accepts the same
+pub accepted-with-room : {a : List ℤ} {work out room : ℕ} → ForwardAccepted a work out → length (ruleList (pointsOf a)) ≤ room / 4 → ForwardAccepted a work room
+accepted-with-room c h = record { even = c .even; few = c .few; working = c .working; points = c .points; room = h }
 
--- backward's checks accept exactly that
+-- backward's accept exactly what `BackwardAccepted` says
 pub backward-accepted : (a : List ℤ) (out : ℕ) → (verdict (backwardChecks a out) ≡ accepted) ↔ BackwardAccepted a out
 unfolding backwardChecks
 backward-accepted a out = Iff·trans (accepted-clear (backwardChecks a out)) (go, back)
@@ -175,14 +164,7 @@ backward-accepted a out = Iff·trans (accepted-clear (backwardChecks a out)) (go
         let t = rects-clear (rectsOf a) .1 (c .rects) in
         (multiple-exactly (length a % 4) .1 (c .even), (le-ltb 16384 (length a / 4) (c .few), (t .0, (t .1 .0, (c .room, tt)))))
 
--- what a step accepts, of a working array and a count of points
-pub record StepAccepted (work : List ℤ) (n : ℕ) : Type 0 where
-  pub few : n ≤ 4096
-  pub working : 2 * n ≤ length work
-  pub some-left : 0 < n
-  pub points : Accepted (take n (pointsOf work))
-
--- a step's checks accept exactly that
+-- a step's accept exactly what `StepAccepted` says
 pub step-accepted : (work : List ℤ) (n : ℕ) → (verdict (stepChecks work n) ≡ accepted) ↔ StepAccepted work n
 unfolding stepChecks
 step-accepted work n = Iff·trans (accepted-clear (stepChecks work n)) (go, back)
@@ -203,6 +185,18 @@ step-accepted work n = Iff·trans (accepted-clear (stepChecks work n)) (go, back
 pub forward-lacks-room : (a : List ℤ) (work out p : ℕ) → (verdict (forwardChecks a work out) ≡ refused 8 p) ↔ (ForwardAccepted a work (4 * p) × (p ≡ length (ruleList (pointsOf a))) × (out / 4 < p))
 unfolding forwardChecks pointChecks numberOf
 forward-lacks-room a work out p = lacks-room (LENGTH (length a) 2 ∷ MANY 4096 (length a / 2) ∷ WORK work (length a / 2) ∷ pointChecks (pointsOf a)) 8 _ (out / 4) (4 * p / 4) p (omega arith) (omega arith) (forward-accepted a work (4 * p))
+
+-- so its answer 8 tells the length of the list
+pub forward-needs : (a : List ℤ) (work out : ℕ) → forwardAnswer a work out .answer ≡ 8 → verdict (forwardChecks a work out) ≡ refused 8 (length (ruleList (pointsOf a)))
+forward-needs a work out e =
+    let p : ℕ = forwardAnswer a work out .place in
+    let v = refused-exactly (forwardChecks a work out) 8 p .1 (forward-refuses a work out 7 p .0 (e, refl)) in
+    rw (← forward-lacks-room a work out p .0 v .1) v
+
+-- where forward answers 0 or 8, it would accept with room for the list
+pub forward-fits : (a : List ℤ) (work out : ℕ) → (forwardAnswer a work out .answer ≡ 0) ⊎ (forwardAnswer a work out .answer ≡ 8) → ForwardAccepted a work (4 * length (ruleList (pointsOf a)))
+forward-fits a work out (inl e) = accepted-with-room (forward-accepted a work out .0 (forward-accepts-exactly a work out .0 e)) (omega arith)
+forward-fits a work out (inr e) = forward-lacks-room a work out _ .0 (forward-needs a work out e) .0
 
 -- backward lacks room, at p, exactly when p is the count of points, the output has room for fewer, and with room for p it
 -- would accept

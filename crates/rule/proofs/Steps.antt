@@ -1,36 +1,47 @@
 -- One step of the rule at an accepted list, and a run of steps without a bound on their number.
 use mathlib.Core.Path.{_≡_, refl, ap, _∙_}
-use Prim.Native.Nat.{ℕ, zero, suc, _+_, _≤_}
+use Prim.Native.Nat.{ℕ, zero, suc, _+_, _≤_, _<_}
 use native.Mathlib.Omega.{arith}
 use mathlib.Core.Bool.{Bool, true, false, not, xor}
 use mathlib.Core.Logic.{_⊎_, inl, inr}
 use mathlib.Core.List.{List, [], _∷_, List·Memᴰ as In}
 use lib.ListN.{length}
 use lib.IntN.{ℤ, pos, _-ℤ_}
-use lib.Signed.{ltZ}
+use lib.Signed.{mag, ltZ}
 use Rattle.plane.specs.declared.Point.{Point}
 use Rattle.plane.specs.declared.Rect.{Rect}
-use Rattle.plane.specs.Lists.{bit, sum}
+use Rattle.plane.specs.Lists.{bit, count, sum}
 use Rattle.plane.specs.Words.{eqZ, same, onRow, inColumn, inRange, pointInRange, rectInRange, flat}
-use Rattle.plane.proofs.Order.{order, add-up, far-side, pos-up}
+use Rattle.plane.proofs.Order.{order, add-up, far-side, pos-up, apart-most}
 use Rattle.plane.proofs.Bools.{by, and-parts, and-make, xor-back, xor-left-comm}
-use Rattle.plane.proofs.Sums.{sum-in, sum-zero, sum-length, count-in}
+use Rattle.plane.proofs.Sums.{sum-in, sum-zero, count-in}
 use Rattle.plane.proofs.Points.{same-refl}
-use Rattle.rule.specs.Rule.{pickK, pickL, pickM, rectOf, toggleFour, takeRect, step, run, leftAfter}
+use Rattle.rule.specs.Rule.{pickK, pickL, pickM, rectOf, toggle, toggleFour, takeRect, step, run, leftAfter}
 use Rattle.rule.specs.Table.{Accepted}
-use Rattle.rule.proofs.Toggle.{odd-four, once-four, sum-four}
+use Rattle.rule.proofs.Toggle.{odd-four, once-four, sum-four, four-lengths}
 use Rattle.rule.proofs.Picks.{Picked, level, right-of, higher, apart, picks}
 
 -- ---- One step
 
 module _ {ps : List Point} {k l : Point} {m : ℤ} (c : Picked ps k l m) where
+  k-there : 1 ≤ count (same k) ps
+  k-there = count-in (same k) (c .first-k .within) (same-refl k)
+
+  l-there : 1 ≤ count (same l) ps
+  l-there = count-in (same l) (c .first-l .within) (same-refl l)
+
   -- K and L go, (xK, M) and (xL, M) may come: for every weight
   pub sum-step : (w : Point → ℕ) → sum w (toggleFour ps k l m) + (w k + w l) ≤ sum w ps + (w (record { x = k .x; y = m }) + w (record { x = l .x; y = m }))
-  sum-step = sum-four ps k l m (count-in (same k) (c .first-k .within) (same-refl k)) (count-in (same l) (c .first-l .within) (same-refl l)) (apart c)
+  sum-step = sum-four ps k l m k-there l-there (apart c)
+
+  -- after none of the toggles of K, L and two more points are the points more than before
+  pub step-lengths : (p q : Point) → (length (toggle ps k) ≤ length ps) × (length (toggle (toggle ps k) l) ≤ length ps) × (length (toggle (toggle (toggle ps k) l) p) ≤ length ps) × (length (toggle (toggle (toggle (toggle ps k) l) p) q) ≤ length ps)
+  step-lengths p q = four-lengths ps k l p q k-there l-there (apart c)
 
   -- the number of points never grows
   step-no-growth : length (toggleFour ps k l m) ≤ length ps
-  step-no-growth = omega (arith, sum-length ps, sum-length (toggleFour ps k l m), sum-step (λ p. 1))
+  unfolding toggleFour
+  step-no-growth = step-lengths (record { x = k .x; y = m }) (record { x = l .x; y = m }) .3
 
   -- a test that every point passes, and (xK, M) and (xL, M) do, every point left passes
   pub step-all : (f : Point → Bool) → ((q : Point) → In q ps → f q ≡ true) → f (record { x = k .x; y = m }) ≡ true → f (record { x = l .x; y = m }) ≡ true → (q : Point) → In q (toggleFour ps k l m) → f q ≡ true
@@ -66,6 +77,10 @@ module _ {ps : List Point} {k l : Point} {m : ℤ} (c : Picked ps k l m) where
     unfolding rectInRange rectOf
     step-in-range = rw (far-side (k .x) (l .x), far-side (k .y) m, range-k .0, range-k .1, range-l .0, range-m)
 
+    -- W and H are at most 2·10^9
+    pub step-sides : (mag (l .x -ℤ k .x) ≤ 2_000_000_000) × (mag (m -ℤ k .y) ≤ 2_000_000_000)
+    step-sides = (apart-most (k .x) (l .x) (range-k .0) (range-l .0), apart-most (k .y) m (range-k .1) range-m)
+
     -- a step keeps rows and columns even, points distinct and all in range
     pub four-accepted : Accepted (toggleFour ps k l m)
     unfolding onRow inColumn pointInRange
@@ -96,6 +111,11 @@ module _ (p : Point) (qs : List Point) (acc : Accepted (p ∷ qs)) where
   pub step-rect : (flat (step (p ∷ qs) .rect) ≡ false) × (rectInRange (step (p ∷ qs) .rect) ≡ true)
   unfolding step takeRect
   step-rect = let c = picks p qs acc in (step-solid c, step-in-range c acc)
+
+-- of accepted points, one or more, a step leaves accepted points, and no more of them
+pub accepted-step : (ps : List Point) → 0 < length ps → Accepted ps → Accepted (step ps .left) × (length (step ps .left) ≤ length ps)
+accepted-step [] h acc = absurd (omega arith)
+accepted-step (p ∷ qs) h acc = (step-keeps-accepted p qs acc, step-never-grows p qs acc)
 
 -- ---- The steps as a relation: from the points, the rectangles made and the points left
 

@@ -1,20 +1,23 @@
 -- What a toggle, and the four toggles of a step, do to every sum, count and parity over the points.
 use mathlib.Core.Path.{_≡_, refl, sym, ap, _∙_, subst}
-use Prim.Native.Nat.{ℕ, suc, _+_, _≤_, _<_}
+use Prim.Native.Nat.{ℕ, zero, suc, _+_, _≤_, _<_, compare·suc-suc}
 use native.Mathlib.Omega.{arith}
-use mathlib.Core.Bool.{Bool, true, false, xor}
+use mathlib.Core.Bool.{Bool, true, false, cond, _||_, xor}
 use mathlib.Core.List.{List, [], _∷_}
-use mathlib.Core.Option.{Option, none, some}
+use mathlib.Core.Option.{Option, none, some, Option·getD}
 use lib.ListN.{length, getD}
 use lib.IntN.{ℤ}
+use lib.Dec.{ltb}
+use borrow.Author.Tests.{lt-ltb}
 use Rattle.plane.specs.declared.Point.{Point}
-use Rattle.plane.specs.Lists.{bit, count, odd, sum}
+use Rattle.plane.specs.Lists.{bit, any, count, odd, sum}
 use Rattle.plane.specs.Words.{origin, same}
 use Rattle.plane.proofs.Bools.{isOdd, isOdd-bit, xor-back}
-use Rattle.plane.proofs.Sums.{sum-append, sum-one, sum-remove, count-sum}
+use Rattle.plane.proofs.Sums.{sum-last-added, sum-remove, sum-length, count-sum}
 use Rattle.plane.proofs.Parity.{odd-sum}
 use Rattle.plane.proofs.Points.{same-is}
 use Rattle.rule.specs.Rule.{further, placeOf, remove, add, toggleAt, toggle, toggleFour}
+use Rattle.rule.specs.Table.{pointAt, firstFrom}
 
 -- ---- Where a point stands
 
@@ -33,7 +36,47 @@ placed p (q ∷ qs) = go (same p q) refl (placeOf p qs) (placed p qs)
     go false e none (absent z) = absent (rw (e, z))
     go false e (some i) (stands h g) = stands {i = suc i} (omega arith) g
 
+-- a search that starts one further finds one further
+first-suc : (t : ℕ → Bool) (i n : ℕ) → firstFrom (suc i) n t ≡ further false (firstFrom i n (λ j. t (suc j)))
+unfolding firstFrom
+first-suc t i zero = refl
+first-suc t i (suc n) = go (t (suc i)) _ (first-suc t (suc i) n)
+  where
+    go : (b : Bool) {o : Option ℕ} (u : Option ℕ) → o ≡ further false u → cond b (some (suc i)) o ≡ further false (cond b (some i) u)
+    go true u e = refl
+    go false u e = e
+
+-- the place of a point is the first place that holds it
+pub place-first : (p : Point) (ps : List Point) → placeOf p ps ≡ firstFrom 0 (length ps) (λ i. same p (pointAt ps i))
+unfolding placeOf firstFrom
+place-first p [] = refl
+place-first p (q ∷ qs) = go (same p q) (placeOf p qs) (first-suc (λ i. same p (pointAt (q ∷ qs) i)) 0 (length qs) ∙ ap (further false) (sym (place-first p qs)))
+  where
+    go : (b : Bool) {o : Option ℕ} (u : Option ℕ) → o ≡ further false u → further b u ≡ cond b (some 0) o
+    go true u e = refl
+    go false u e = sym e
+
+-- with the length for no place, a list has a point exactly where its place is below the length
+pub any-placed : (p : Point) (ps : List Point) → any (same p) ps ≡ ltb (Option·getD (placeOf p ps) (length ps)) (length ps)
+unfolding placeOf any
+any-placed p [] = refl
+any-placed p (q ∷ qs) = go (same p q) (placeOf p qs) (any-placed p qs)
+  where
+    go : (b : Bool) (o : Option ℕ) → any (same p) qs ≡ ltb (Option·getD o (length qs)) (length qs) → (b || any (same p) qs) ≡ ltb (Option·getD (further b o) (suc (length qs))) (suc (length qs))
+    go true o e = sym (lt-ltb 0 (suc (length qs)) (omega arith))
+    go false none e = rw compare·suc-suc e
+    go false (some i) e = rw compare·suc-suc e
+
 -- ---- One toggle
+
+-- a point with a place in the list is removed there, and one without is added
+pub toggle-at : (ps : List Point) (p : Point) → let i = Option·getD (placeOf p ps) (length ps) in (i < length ps → toggle ps p ≡ remove ps i) × (length ps ≤ i → toggle ps p ≡ add ps p)
+unfolding toggle
+toggle-at ps p = go (placeOf p ps) (placed p ps)
+  where
+    go : (o : Option ℕ) → Placed p ps o → let i = Option·getD o (length ps) in (i < length ps → toggleAt o ps p ≡ remove ps i) × (length ps ≤ i → toggleAt o ps p ≡ add ps p)
+    go none (absent z) = (λ h. absurd (omega arith), λ h. refl)
+    go (some i) (stands h g) = (λ k. refl, λ k. absurd (omega arith))
 
 -- a toggle adds an absent point or takes a present one away
 data Toggled (ps : List Point) (p : Point) (qs : List Point) : Type 0 where
@@ -45,7 +88,7 @@ unfolding toggle remove add
 toggled ps p = go (placeOf p ps) (placed p ps)
   where
     go : (o : Option ℕ) → Placed p ps o → Toggled ps p (toggleAt o ps p)
-    go none (absent z) = added z (λ w. sum-append w ps (p ∷ []) ∙ ap (λ n. sum w ps + n) (sum-one w p))
+    go none (absent z) = added z (λ w. sum-last-added w ps p)
     go (some i) (stands h g) = taken (λ w. subst (λ q. sum w (remove ps i) + w q ≡ sum w ps) g (sum-remove w ps i origin h))
 
 -- a present point is taken away
@@ -57,12 +100,20 @@ toggle-taken ps p h w = go (toggled ps p)
     go (taken k) = k w
 
 -- at most the point is added
-pub toggle-most : (ps : List Point) (p : Point) (w : Point → ℕ) → sum w (toggle ps p) ≤ sum w ps + w p
+toggle-most : (ps : List Point) (p : Point) (w : Point → ℕ) → sum w (toggle ps p) ≤ sum w ps + w p
 toggle-most ps p w = go (toggled ps p)
   where
     go : {qs : List Point} → Toggled ps p qs → sum w qs ≤ sum w ps + w p
     go (added z k) = omega (arith, k w)
     go (taken k) = omega (arith, k w)
+
+-- at most one point more, and one less where the point is present
+pub toggle-length : (ps : List Point) (p : Point) → (length (toggle ps p) ≤ length ps + 1) × (1 ≤ count (same p) ps → length (toggle ps p) + 1 ≡ length ps)
+toggle-length ps p =
+    let one : Point → ℕ = λ q. 1 in
+    let a = sum-length ps in
+    let b = sum-length (toggle ps p) in
+    (omega (arith, toggle-most ps p one), λ h. omega (arith, toggle-taken ps p h one))
 
 -- the parity of every test changes exactly where the point passes it
 pub odd-toggle : (f : Point → Bool) (ps : List Point) (p : Point) → odd f (toggle ps p) ≡ xor (f p) (odd f ps)
@@ -103,12 +154,23 @@ pub once-four : (ps : List Point) (k l : Point) (m : ℤ) → ((q : Point) → c
 unfolding toggleFour
 once-four ps k l m h = once-toggle _ _ (once-toggle _ _ (once-toggle _ _ (once-toggle ps k h)))
 
+-- another point that is present stays present when one is toggled
+still-there : (ps : List Point) (k l : Point) → 1 ≤ count (same k) ps → 1 ≤ count (same l) ps → same l k ≡ false → 1 ≤ count (same l) (toggle ps k)
+still-there ps k l k-in l-in d =
+    let apart : bit (same l k) ≡ 0 = ap bit d in
+    omega (arith, count-sum (same l) ps, count-sum (same l) (toggle ps k), toggle-taken ps k k-in (λ q. bit (same l q)))
+
 -- where K and L are two points of the list: they go, and (xK, M) and (xL, M) may come
 pub sum-four : (ps : List Point) (k l : Point) (m : ℤ) → 1 ≤ count (same k) ps → 1 ≤ count (same l) ps → same l k ≡ false → (w : Point → ℕ) → sum w (toggleFour ps k l m) + (w k + w l) ≤ sum w ps + (w (record { x = k .x; y = m }) + w (record { x = l .x; y = m }))
 unfolding toggleFour
 sum-four ps k l m k-in l-in d w =
     let km : Point = record { x = k .x; y = m } in
     let lm : Point = record { x = l .x; y = m } in
-    let apart : bit (same l k) ≡ 0 = ap bit d in
-    let still : 1 ≤ count (same l) (toggle ps k) = omega (arith, count-sum (same l) ps, count-sum (same l) (toggle ps k), toggle-taken ps k k-in (λ q. bit (same l q))) in
-    omega (arith, toggle-taken ps k k-in w, toggle-taken (toggle ps k) l still w, toggle-most (toggle (toggle ps k) l) km w, toggle-most (toggle (toggle (toggle ps k) l) km) lm w)
+    omega (arith, toggle-taken ps k k-in w, toggle-taken (toggle ps k) l (still-there ps k l k-in l-in d) w, toggle-most (toggle (toggle ps k) l) km w, toggle-most (toggle (toggle (toggle ps k) l) km) lm w)
+
+-- where K and L are two points of the list: after none of the toggles of K, L and two more points are they more than before
+pub four-lengths : (ps : List Point) (k l p q : Point) → 1 ≤ count (same k) ps → 1 ≤ count (same l) ps → same l k ≡ false → (length (toggle ps k) ≤ length ps) × (length (toggle (toggle ps k) l) ≤ length ps) × (length (toggle (toggle (toggle ps k) l) p) ≤ length ps) × (length (toggle (toggle (toggle (toggle ps k) l) p) q) ≤ length ps)
+four-lengths ps k l p q k-in l-in d =
+    let ps₁ : List Point = toggle ps k in
+    let ps₂ : List Point = toggle ps₁ l in
+    omega (arith, toggle-length ps k .1 k-in, toggle-length ps₁ l .1 (still-there ps k l k-in l-in d), toggle-length ps₂ p .0, toggle-length (toggle ps₂ p) q .0)

@@ -3,20 +3,31 @@ use mathlib.Core.Path.{_≡_, refl, sym, ap, subst}
 use mathlib.Core.Logic.{_↔_, _≢_, Iff·trans}
 use Prim.Native.Nat.{ℕ, zero, suc, _+_, _≤_, _<_}
 use native.Mathlib.Omega.{arith}
-use mathlib.Core.Bool.{true, false}
+use mathlib.Core.Bool.{Bool, true, false, cond}
 use mathlib.Core.List.{List, [], _∷_, _++_, List·Memᴰ as In, List·Memᴰ·head as head, List·Memᴰ·tail as tail}
-use mathlib.Core.Option.{Option, none, some}
+use mathlib.Core.Option.{Option, none, some, Option·getD}
 use lib.Dec.{ltb}
-use borrow.Author.Tests.{ltb-true, ltb-false}
+use borrow.Author.Tests.{ltb-true, ltb-false, lt-ltb, le-ltb}
 use Rattle.plane.proofs.Bools.{clash, by-no, cond-case}
 use Rattle.rule.specs.Table.{Check, whole, each, needs, numberOf, Given, by-whole, by-item, by-need, FirstGiven, this, later, firstFrom, placeGiven, Verdict, accepted, refused, orLater, verdict}
 
 -- ---- A check alone
 
+-- no number below i passes a test
+abbrev pub NoneBelow : ℕ → (ℕ → Bool) → Type 0
+NoneBelow i t = (j : ℕ) → j < i → t j ≡ false
+
+-- where i does not pass either, none below the next does
+pub none-below-next : {t : ℕ → Bool} {i : ℕ} → NoneBelow i t → t i ≡ false → NoneBelow (i + 1) t
+none-below-next {t} {i} f d j h = by-no (t j) (λ c.
+    let a : ¬ (j < i) = λ l. clash c (f j l) in
+    let b : j ≡ i = omega arith in
+    clash (rw b at c) d)
+
 -- nothing of the check offends
 abbrev pub Clear : Check → Type 0
 Clear (whole k t) = t ≡ false
-Clear (each k n t) = (i : ℕ) → i < n → t i ≡ false
+Clear (each k n t) = NoneBelow n t
 Clear (needs k n r) = n ≤ r
 
 -- a clear check is given nowhere
@@ -45,12 +56,9 @@ check-placed (whole k true) = at (by-whole refl)
 check-placed (whole k false) = nowhere refl
 check-placed (each k n t) = from 0 n (omega arith) (λ j h. absurd (omega arith))
   where
-    from : (i m : ℕ) → i + m ≡ n → ((j : ℕ) → j < i → t j ≡ false) → Placed (each k n t) (firstFrom i m t)
+    from : (i m : ℕ) → i + m ≡ n → NoneBelow i t → Placed (each k n t) (firstFrom i m t)
     from i zero e f = nowhere (λ j h. f j (omega arith))
-    from i (suc m) e f = cond-case (Placed (each k n t)) (t i) (λ d. at (by-item i (omega arith) d f)) (λ d. from (suc i) m (omega arith) (λ j h. by-no (t j) (λ c.
-        let a : ¬ (j < i) = λ l. clash c (f j l) in
-        let b : j ≡ i = omega arith in
-        clash (rw b at c) d)))
+    from i (suc m) e f = cond-case (Placed (each k n t)) (t i) (λ d. at (by-item i (omega arith) d f)) (λ d. from (suc i) m (omega arith) (λ j h. none-below-next f d j (omega arith)))
 check-placed (needs k n r) = cond-case (Placed (needs k n r)) (ltb r n) (λ e. at (by-need (ltb-true r n e))) (λ e. nowhere (ltb-false r n e))
 
 -- the computed place is just where the check is given
@@ -72,7 +80,8 @@ clear-exactly r = (λ c p g. clear-given c g, back (check-placed r))
     back (at {p} g) n = absurd (n p g)
     back (nowhere c) n = c
 
-place-clear : (r : Check) → (placeGiven r ≡ none) ↔ Clear r
+-- no place is computed exactly when nothing of the check offends
+pub place-clear : (r : Check) → (placeGiven r ≡ none) ↔ Clear r
 place-clear r = (λ e. go (subst (Placed r) e (check-placed r)), back (check-placed r))
   where
     go : Placed r none → Clear r
@@ -107,6 +116,15 @@ checks-read (r ∷ checks) = go (check-placed r) (checks-read checks)
     go (at g) w = refuses (this g)
     go (nowhere c) (passes h) = passes (c, h)
     go (nowhere c) (refuses f) = refuses (later (λ p. clear-given c) f)
+
+-- with n for no place, a check of n items refuses exactly where its place is below n
+pub verdict-each : (k n : ℕ) (t : ℕ → Bool) (checks : List Check) → let i = Option·getD (placeGiven (each k n t)) n in verdict (each k n t ∷ checks) ≡ cond (ltb i n) (refused k i) (verdict checks)
+unfolding verdict numberOf
+verdict-each k n t checks = go (check-placed (each k n t))
+  where
+    go : {o : Option ℕ} → Placed (each k n t) o → orLater k o (verdict checks) ≡ cond (ltb (Option·getD o n) n) (refused k (Option·getD o n)) (verdict checks)
+    go (at (by-item i h e f)) = rw (lt-ltb i n h)
+    go (nowhere c) = rw (le-ltb n n (omega arith))
 
 verdict-first : {checks : List Check} {k p : ℕ} → FirstGiven checks k p → verdict checks ≡ refused k p
 unfolding verdict
@@ -155,6 +173,15 @@ clear-append (r ∷ checks) more =
     let ih = clear-append checks more in
     (λ h. ((h .0, ih .0 (h .1) .0), ih .0 (h .1) .1), λ h. (h .0 .0, ih .1 (h .0 .1, h .1)))
 
+-- the first given of checks is the first given with more checks after them
+first-append : {checks : List Check} (more : List Check) {k p : ℕ} → FirstGiven checks k p → FirstGiven (checks ++ more) k p
+first-append more (this g) = this g
+first-append more (later n f) = later n (first-append more f)
+
+-- what checks refuse, they refuse with more checks after them
+pub refused-append : (checks more : List Check) {k p : ℕ} → verdict checks ≡ refused k p → verdict (checks ++ more) ≡ refused k p
+refused-append checks more {k} {p} e = verdict-first (first-append more (refused-exactly checks k p .0 e))
+
 -- ---- The numbers of checks
 
 -- the numbers of the checks are as told
@@ -165,6 +192,10 @@ Numbers P (r ∷ checks) = P (numberOf r) × Numbers P checks
 number-known : {checks : List Check} {k p : ℕ} (P : ℕ → Type 0) → Numbers P checks → FirstGiven checks k p → P k
 number-known P n (this g) = n .0
 number-known P n (later c f) = number-known P (n .1) f
+
+-- a refusal's number is as told
+pub refused-number : (checks : List Check) {k p : ℕ} (P : ℕ → Type 0) → Numbers P checks → verdict checks ≡ refused k p → P k
+refused-number checks {k} {p} P n e = number-known P n (refused-exactly checks k p .0 e)
 
 -- ---- The number and the place of a verdict
 

@@ -158,3 +158,25 @@ pub record Accepted (ps : List Point) : Type 0 where
 pub record AcceptedRects (rs : List Rect) : Type 0 where
   pub solid : (r : Rect) → In r rs → flat r ≡ false
   pub range : (r : Rect) → In r rs → rectInRange r ≡ true
+
+-- what forward accepts, of an array, the working array's length and the output's
+pub record ForwardAccepted (a : List ℤ) (work out : ℕ) : Type 0 where
+  pub even : length a % 2 ≡ 0
+  pub few : length a / 2 ≤ 4096
+  pub working : 2 * (length a / 2) ≤ work
+  pub points : Accepted (pointsOf a)
+  pub room : length (ruleList (pointsOf a)) ≤ out / 4
+
+-- what backward accepts, of an array and the output's length
+pub record BackwardAccepted (a : List ℤ) (out : ℕ) : Type 0 where
+  pub even : length a % 4 ≡ 0
+  pub few : length a / 4 ≤ 16384
+  pub rects : AcceptedRects (rectsOf a)
+  pub room : length (backList (rectsOf a)) ≤ out / 2
+
+-- what a step accepts, of a working array and a count of points
+pub record StepAccepted (work : List ℤ) (n : ℕ) : Type 0 where
+  pub few : n ≤ 4096
+  pub working : 2 * n ≤ length work
+  pub some-left : 0 < n
+  pub points : Accepted (take n (pointsOf work))

@@ -1,7 +1,8 @@
 """Checks that each must-fail edit was refused for the fact that it names.
 
 An edit says in a comment '# Fails first: FILE: NAME (why)', with FILE below its crate. The run of `rt ci` before leaves the prover's
-log of the edit: its first error is at NAME in FILE, and no error is one of scope or syntax, which would refuse any edit.
+log of the edit: the first fact that it could not prove is NAME in FILE, and no error is one of scope, syntax or shape, which would
+refuse any edit.
 
 Each fault is printed on a line. The last line is 'N passed, M failed', and the exit status is 0 exactly when M is 0.
 """
@@ -15,8 +16,12 @@ from counting import report
 
 FAILS_FIRST = re.compile(r"^# Fails first: (\S+): (\S+) \(.+\)$", re.MULTILINE)
 ERROR = re.compile(r"^(\S+?):\d+:\d+: error: (.*)$", re.MULTILINE)
+# What the prover says of a function that needs no proof file.
+NOT_PROVED = re.compile(r"^note: (\S+?):\d+:\d+: it is not proved that .*\((`\S+`)\)$", re.MULTILINE)
+# Such an error only follows from an earlier one.
+FOLLOWS = "so this cannot be checked"
 # Such an error says that the edited text is no longer Rattle or antt, or that a proof no longer fits the code's shape.
-UNFIT = re.compile(r"not in scope|can be named from here|cannot appear|[Pp]arse error|syntax")
+UNFIT = re.compile(r"not in scope|can be named from here|cannot appear|has no field|binders|[Pp]arse error|syntax")
 
 
 def fault_of(edit, log):
@@ -26,10 +31,12 @@ def fault_of(edit, log):
         return "it has not one line '# Fails first: FILE: NAME (why)'"
     if not log.is_file():
         return "the prover left no log of it: run `rt ci` first"
-    errors = ERROR.findall(log.read_text(encoding="utf-8"))
-    if not errors:
+    text = log.read_text(encoding="utf-8")
+    errors = [(path, message) for path, message in ERROR.findall(text) if FOLLOWS not in message]
+    unproved = errors + NOT_PROVED.findall(text)
+    if not unproved:
         return "the prover's log of it has no error"
-    (file, name), (path, message) = said[0], errors[0]
+    (file, name), (path, message) = said[0], unproved[0]
     if not (path.endswith("/" + file) and message.startswith(f"`{name}`")):
         return f"it fails first at {path.rpartition('/must-fail/')[2]}: {message[:80]}"
     unfit = [message for _, message in errors if UNFIT.search(message)]

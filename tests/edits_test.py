@@ -57,6 +57,23 @@ class Edits(unittest.TestCase):
         log = GOOD_LOG.replace("Sum.antt", "Product.antt")
         self.check(GOOD_EDIT, log, f"{EDIT}: it fails first at one/wrong/proofs/Product.antt: `sum-law`: the two types differ")
 
+    def test_an_error_that_only_follows_is_passed_over(self):
+        follows = f"{AT}/proofs/A.antt:1:1: error: `a`: `sum-law` was not admitted, so this cannot be checked\n"
+        self.check(GOOD_EDIT, follows + GOOD_LOG)
+
+    def test_refused_in_a_function_without_a_proof_file(self):
+        edit = GOOD_EDIT.replace("proofs/Sum.antt: sum-law", "src/lib.rt: add-sum")
+        log = f"note: {AT}/src/lib.rt:3:4: it is not proved that the sum fits its type (`add-sum`)\n"
+        self.check(edit, log)
+
+    def test_an_error_comes_before_a_function_without_a_proof_file(self):
+        log = f"note: {AT}/src/lib.rt:3:4: it is not proved that the sum fits its type (`add-sum`)\n"
+        self.check(GOOD_EDIT, log + GOOD_LOG)
+
+    def test_a_proof_that_no_longer_fits(self):
+        log = GOOD_LOG + f"{AT}/proofs/B.antt:2:1: error: `c`: record `Start` has no field `before`\n"
+        self.check(GOOD_EDIT, log, f"{EDIT}: the edit itself is unfit: `c`: record `Start` has no field `before`")
+
     def test_edit_that_is_unfit(self):
         log = GOOD_LOG + f"{AT}/specs/A.antt:1:1: error: `a`: `two` is not in scope\n"
         self.check(GOOD_EDIT, log, f"{EDIT}: the edit itself is unfit: `a`: `two` is not in scope")

@@ -5,7 +5,7 @@ use mathlib.Core.Logic.{_↔_, Iff·trans}
 use Prim.Native.Nat.{ℕ, zero, suc, _+_, _≤_, _<_}
 use native.Mathlib.Omega.{arith}
 use mathlib.Core.Bool.{Bool, true, false, not, cond}
-use mathlib.Core.List.{List, [], _∷_, _++_, map, List·Memᴰ as In, List·Memᴰ·head as head, List·Memᴰ·tail as tail}
+use mathlib.Core.List.{List, [], _∷_, _++_, List·Memᴰ as In, List·Memᴰ·head as head, List·Memᴰ·tail as tail}
 use lib.ListN.{length, getD, take, drop, set, take-append-drop, drop-of-length-le}
 use lib.Seq.{drop-cons, set-split}
 use lib.IntN.{ℤ}
@@ -29,25 +29,13 @@ module _ {A : Type 0} where
   in-at (a ∷ l) (suc i) d h = tail (in-at l i d (omega arith))
 
   -- an element stands at some place
-  pub at-in : {l : List A} {a : A} (d : A) → In a l → (i : ℕ) × (i < length l) × (getD l i d ≡ a)
+  at-in : {l : List A} {a : A} (d : A) → In a l → (i : ℕ) × (i < length l) × (getD l i d ≡ a)
   at-in d (head e) = (0, omega arith, sym e)
   at-in d (tail m) = let r = at-in d m in (suc (r .0), omega arith, r .2)
 
   -- an element set at the last place comes after the others
   pub set-last : (l : List A) (j : ℕ) (a : A) → length l ≡ j + 1 → set l j a ≡ take j l ++ (a ∷ [])
   set-last l j a e = set-split l j a (omega arith) ∙ ap (λ (m : List A). take j l ++ (a ∷ m)) (drop-of-length-le l {i = suc j} (omega arith))
-
-  -- what stands at a place, after a function of each element
-  pub map-at : {B : Type 0} (f : A → B) (l : List A) (i : ℕ) (d : A) (e : B) → i < length l → getD (map f l) i e ≡ f (getD l i d)
-  map-at f [] i d e h = absurd (omega arith)
-  map-at f (a ∷ l) zero d e h = refl
-  map-at f (a ∷ l) (suc i) d e h = map-at f l i d e (omega arith)
-
-  -- what is set at a place, after a function of each element
-  pub map-set : {B : Type 0} (f : A → B) (l : List A) (i : ℕ) (a : A) → map f (set l i a) ≡ set (map f l) i (f a)
-  map-set f [] i a = refl
-  map-set f (b ∷ l) zero a = refl
-  map-set f (b ∷ l) (suc i) a = ap (λ m. f b ∷ m) (map-set f l i a)
 
   -- a fact of what stands at every place is a fact of every element
   pub at-every-place : (P : A → Type 0) (l : List A) (d : A) → ((i : ℕ) → i < length l → P (getD l i d)) ↔ ((a : A) → In a l → P a)

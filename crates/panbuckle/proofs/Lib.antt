@@ -1,0 +1,12 @@
+pub mod Bits
+pub mod Scan
+pub mod Search
+pub mod Screens
+pub mod Copied
+pub mod Toggling
+pub mod Taking
+pub mod StopRow
+pub mod Walk
+pub mod Outcomes
+pub mod Kept
+pub mod Stepping

@@ -1,0 +1,25 @@
+-- `panbuckle::check_work` meets its contract: each check refuses, or passes to the next.
+use borrow.Author.Needs.{needs}
+use borrow.Author.Tests.{lt-ltb, le-ltb, eq-eqb, ne-eqb}
+use Rattle.rule.specs.Table.{stepChecks, numberOf, placeGiven, verdict}
+use Rattle.panbuckle.proofs.check_work.Statement.{statement}
+use Rattle.panbuckle.proofs.check_work.Tie as tie
+
+returns : tie.Need-returns
+unfolding stepChecks verdict numberOf placeGiven
+returns c = simp (lt-ltb _ _ (c .before .if1 .taken)) (c .refused .ensures)
+
+returns-2 : tie.Need-returns-2
+unfolding stepChecks verdict numberOf placeGiven
+returns-2 c = simp (le-ltb _ _ (c .before .before .if1 .left), lt-ltb _ _ (c .before .if2 .taken)) (c .refused2 .ensures)
+
+returns-3 : tie.Need-returns-3
+unfolding stepChecks verdict numberOf placeGiven
+returns-3 c = simp (le-ltb _ _ (c .before .before .before .if1 .left), le-ltb _ _ (c .before .before .if2 .left), eq-eqb _ _ (c .before .if3 .taken)) (c .refused3 .ensures)
+
+returns-4 : tie.Need-returns-4
+unfolding stepChecks verdict numberOf placeGiven
+returns-4 c = simp (le-ltb _ _ (c .before .before .before .if1 .left), le-ltb _ _ (c .before .before .if2 .left), ne-eqb _ _ (c .before .if3 .left)) (c .check-points .ensures)
+
+pub check-work-spec : {M : Type 1} → statement M
+check-work-spec = tie.close (tie.spec (λ c κs. search needs) returns (λ c. search needs) (λ c κs. search needs) returns-2 (λ c κs. search needs) returns-3 (λ c κs. search needs) returns-4)

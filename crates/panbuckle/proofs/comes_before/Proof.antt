@@ -1,0 +1,13 @@
+-- `panbuckle::comes_before` meets its contract.
+use borrow.Author.Needs.{needs}
+use Rattle.plane.specs.Words.{before}
+use Rattle.panbuckle.proofs.Bits.{eq-bits}
+use Rattle.panbuckle.proofs.comes_before.Statement.{statement}
+use Rattle.panbuckle.proofs.comes_before.Tie as tie
+
+returns : tie.Need-returns
+unfolding before
+returns c = search (needs, eq-bits)
+
+pub comes-before-spec : {M : Type 1} → statement M
+comes-before-spec = tie.close (tie.spec returns)

@@ -1,0 +1,77 @@
+-- `panbuckle::toggle_four` meets its contract: what the array keeps is carried from toggle to toggle.
+use Prim.Native.Nat.{_≤_}
+use mathlib.Core.List.{List}
+use lib.ListN.{length}
+use borrow.Author.Needs.{needs}
+use Rattle.plane.specs.declared.Point.{Point}
+use Rattle.rule.specs.Rule.{toggle, toggleFour}
+use Rattle.panbuckle.specs.Inner.{held, cross}
+use Rattle.panbuckle.proofs.Toggling.{Keeps, keeps-first, keeps-room, keeps-toggled}
+use Rattle.panbuckle.proofs.Taking.{begun-lengths}
+use Rattle.panbuckle.proofs.toggle_four.Statement.{statement}
+use Rattle.panbuckle.proofs.toggle_four.Tie as tie
+
+-- the points after each toggle
+abbrev points₀ : tie.Start → List Point
+points₀ s = held (s .args .n) (s .args .a .now)
+
+abbrev points₁ : tie.Start → List Point
+points₁ s = toggle (points₀ s) (s .args .k)
+
+abbrev points₂ : tie.Start → List Point
+points₂ s = toggle (points₁ s) (s .args .l)
+
+abbrev points₃ : tie.Start → List Point
+points₃ s = toggle (points₂ s) (cross (s .args .k) (s .args .m))
+
+abbrev points₄ : tie.Start → List Point
+points₄ s = toggle (points₃ s) (cross (s .args .l) (s .args .m))
+
+-- they are never more than at the start
+few : (s : tie.Start) → (length (points₁ s) ≤ s .args .n) × (length (points₂ s) ≤ s .args .n) × (length (points₃ s) ≤ s .args .n) × (length (points₄ s) ≤ s .args .n)
+few s = begun-lengths (s .pre) (cross (s .args .k) (s .args .m)) (cross (s .args .l) (s .args .m))
+
+-- what the array keeps after each toggle
+keeps₀ : (s : tie.Start) → Keeps (s .args .n) (s .args .a .now) (s .args .a .now) (s .args .n) (points₀ s)
+keeps₀ s = keeps-first (s .pre .ready .working)
+
+keeps₁ : (c : tie.After-toggled) → let s = c .before .before in Keeps (s .args .n) (s .args .a .now) (c .toggled .last .0) (c .toggled .result) (points₁ s)
+keeps₁ c = let s = c .before .before in keeps-toggled (keeps₀ s) (s .args .k) (few s .0) (c .toggled .ensures)
+
+keeps₂ : (c : tie.After-toggled2) → let s = c .before .before .before .before .before in Keeps (s .args .n) (s .args .a .now) (c .toggled2 .last .0) (c .toggled2 .result) (points₂ s)
+keeps₂ c = let s = c .before .before .before .before .before in keeps-toggled (keeps₁ (c .before .before .before)) (s .args .l) (few s .1) (c .toggled2 .ensures)
+
+keeps₃ : (c : tie.After-toggled3) → let s = c .before .before .before .before .before .before .before .before .before in Keeps (s .args .n) (s .args .a .now) (c .toggled3 .last .0) (c .toggled3 .result) (points₃ s)
+keeps₃ c =
+    let s = c .before .before .before .before .before .before .before .before .before in
+    let e = c .before .corner .ensures in
+    rw e at (keeps-toggled (keeps₂ (c .before .before .before .before)) (c .before .corner .result) (rw e (few s .2)) (c .toggled3 .ensures))
+
+keeps₄ : (c : tie.After-toggled4) → let s = c .before .before .before .before .before .before .before .before .before .before .before .before .before in Keeps (s .args .n) (s .args .a .now) (c .toggled4 .last .0) (c .toggled4 .result) (points₄ s)
+keeps₄ c =
+    let s = c .before .before .before .before .before .before .before .before .before .before .before .before .before in
+    let e = c .before .corner2 .ensures in
+    rw e at (keeps-toggled (keeps₃ (c .before .before .before .before)) (c .before .corner2 .result) (rw e (few s .3)) (c .toggled4 .ensures))
+
+toggled-requires : tie.Need-toggled-requires
+toggled-requires c κs = let s = c .before in keeps-room (keeps₀ s) (s .args .k) (few s .0)
+
+toggled-requires-2 : tie.Need-toggled-requires-2
+toggled-requires-2 c κs = let s = c .before .before .before .before in keeps-room (keeps₁ (c .before .before)) (s .args .l) (few s .1)
+
+toggled-requires-3 : tie.Need-toggled-requires-3
+toggled-requires-3 c κs =
+    let s = c .before .before .before .before .before .before .before .before in
+    keeps-room (keeps₂ (c .before .before .before)) (c .corner .result) (rw (c .corner .ensures) (few s .2))
+
+toggled-requires-4 : tie.Need-toggled-requires-4
+toggled-requires-4 c κs =
+    let s = c .before .before .before .before .before .before .before .before .before .before .before .before in
+    keeps-room (keeps₃ (c .before .before .before)) (c .corner2 .result) (rw (c .corner2 .ensures) (few s .3))
+
+returns : tie.Need-returns
+unfolding toggleFour
+returns c = let h = keeps₄ (c .before) in (h .many, h .all)
+
+pub toggle-four-spec : {M : Type 1} → statement M
+toggle-four-spec = tie.close (tie.spec toggled-requires toggled-requires-2 (λ c κs. search needs) toggled-requires-3 (λ c κs. search needs) toggled-requires-4 (λ c. search needs) returns)

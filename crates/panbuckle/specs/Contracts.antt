@@ -1,0 +1,39 @@
+-- What the public functions promise, for every input: the answer, and what each lent array holds afterwards, as
+-- definitions of what was given.
+use Prim.Native.Nat.{ℕ, _*_, _/_}
+use mathlib.Core.Path.{_≡_}
+use mathlib.Core.List.{List, [], _∷_, _++_}
+use lib.ListN.{length, take, drop}
+use lib.IntN.{ℤ}
+use Rattle.plane.specs.declared.Rect.{Rect}
+use Rattle.rule.specs.declared.ForwardAnswer.{ForwardAnswer}
+use Rattle.rule.specs.declared.StepAnswer.{StepAnswer}
+use Rattle.rule.specs.declared.StepAnswer.the-variants.{Rectangle, Refused}
+use Rattle.rule.specs.Answers.{forwardAnswer, forwardWork, forwardOut, stepAnswer, stepWork}
+
+-- forward, of an array, a working array and an output: its answer, and the two lent arrays afterwards
+pub record ForwardDone (a work out : List ℤ) (r : ForwardAnswer) (work-after out-after : List ℤ) : Type 0 where
+  pub answer : r ≡ forwardAnswer a (length work) (length out)
+  pub working : work-after ≡ forwardWork a work (length out)
+  pub output : out-after ≡ forwardOut a (length work) out
+
+-- a step, of a working array and a count of points: its answer, and the working array afterwards
+pub record StepDone (work : List ℤ) (n : ℕ) (r : StepAnswer) (work-after : List ℤ) : Type 0 where
+  pub answer : r ≡ stepAnswer work n
+  pub working : work-after ≡ stepWork work n
+
+-- ---- Calls of step, one after another
+
+-- a working array with an array's points copied in order into its start
+abbrev pub copied : (a work : List ℤ) → List ℤ
+copied a work = take (2 * (length a / 2)) a ++ drop (2 * (length a / 2)) work
+
+-- calls of step on a working array with n points, until one answers DRAINED: their rectangles, and the array after the last
+pub data Stepped : (work : List ℤ) (n : ℕ) → List Rect → (work-after : List ℤ) → Type 0 where
+  drained : {work : List ℤ} {n : ℕ} {work-after : List ℤ} → StepDone work n (Refused 10 0) work-after → Stepped work n [] work-after
+  another : {work : List ℤ} {n : ℕ} {r : Rect} {m : ℕ} {between : List ℤ} {rs : List Rect} {work-after : List ℤ} → StepDone work n (Rectangle r m) between → Stepped between m rs work-after → Stepped work n (r ∷ rs) work-after
+
+-- calls of step on a working array with n points that each answer a rectangle: the array and the count that they reach
+pub data Reached (work : List ℤ) (n : ℕ) : (work-now : List ℤ) (m : ℕ) → Type 0 where
+  at-start : Reached work n work n
+  onward : {between : List ℤ} {m : ℕ} {r : Rect} {j : ℕ} {work-now : List ℤ} → Reached work n between m → StepDone between m (Rectangle r j) work-now → Reached work n work-now j

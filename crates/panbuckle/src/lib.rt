@@ -1,0 +1,643 @@
+// Panbuckle: the corner points of right-angled shapes become disjoint rectangles.
+// The public functions are `forward` and `step`, at the end. What they promise is in specs/Contracts.antt; the rule, the
+// refusals and the answers are the definitions of the crate `rule`.
+ghost use mathlib.Core.Path.{_≡_};
+ghost use mathlib.Core.Bool.{cond, true, false};
+ghost use mathlib.Core.List.{_++_, []};
+ghost use mathlib.Core.Option.{Option·getD};
+ghost use mir.Syntax.{w32};
+ghost use mir.Val.{SFits};
+ghost use lib.IntN.{_-ℤ_};
+ghost use lib.Signed.{ltZ};
+ghost use lib.ListN.{length, take, drop};
+ghost use Prim.Native.Nat.{_+_, _*_, _/_, _<_, _≤_};
+ghost use Rattle.plane.specs.Lists.{odd};
+ghost use Rattle.plane.specs.Words.{origin, same, before, pointInRange, pointsOf, flat, areaOf, edgeOf, flatRects};
+ghost use Rattle.rule.specs.Rule.{firstOf, rightOf, placeOf, pickM, rectOf, toggle, toggleFour, ruleList};
+ghost use Rattle.rule.specs.Table.{accepted, pointAt, pointChecks, placeGiven, verdict, stepChecks, ForwardAccepted};
+ghost use Rattle.rule.specs.Answers.{workOf, forwardSays, written};
+ghost use Rattle.panbuckle.specs.Inner.{held, put, putRect, Holds, cross, overWidth, sought, Begun, beside, IsHighest, Toggled, OddBeside, Between, most, screenOf, onLine, offends, pointCheck, inputChecks};
+ghost use Rattle.panbuckle.specs.Contracts.{ForwardDone, StepDone};
+pub use plane::Point;
+pub use plane::Rect;
+pub use rule::ForwardAnswer;
+pub use rule::StepAnswer;
+
+// ---- The numbers of the answers
+
+pub const DONE: u32 = 0;
+
+pub const LENGTH: u32 = 1;
+
+pub const MANY: u32 = 2;
+
+pub const WORK: u32 = 3;
+
+pub const RANGE: u32 = 4;
+
+pub const REPEATED: u32 = 5;
+
+pub const ROW: u32 = 6;
+
+pub const COLUMN: u32 = 7;
+
+pub const ROOM: u32 = 8;
+
+pub const DRAINED: u32 = 10;
+
+// The most points that forward and a step take.
+pub const MOST_POINTS: usize = 4096;
+
+// ---- Points
+
+fn same_point(p: Point, q: Point) -> bool
+    ensures { λ r. ⌜ r ≡ same p q ⌝ }
+{
+    (p.x == q.x) & (p.y == q.y)
+}
+
+// In the order of y, then x.
+fn comes_before(p: Point, q: Point) -> bool
+    ensures { λ r. ⌜ r ≡ before p q ⌝ }
+{
+    (p.y < q.y) | ((p.y == q.y) & (p.x < q.x))
+}
+
+// The one point where the test holds, and the other where not.
+fn pick(t: bool, p: Point, q: Point) -> Point
+    ensures { λ r. ⌜ r ≡ cond t p q ⌝ }
+{
+    if t { p } else { q }
+}
+
+// The point in p's column on q's row.
+fn corner(p: Point, q: Point) -> Point
+    ensures { λ r. ⌜ r ≡ cross p q ⌝ }
+{
+    Point { x: p.x, y: q.y }
+}
+
+fn zero() -> Point
+    ensures { λ r. ⌜ r ≡ origin ⌝ }
+{
+    Point { x: 0, y: 0 }
+}
+
+// ---- Points in an array
+
+fn point_at(a: &[i32], i: usize) -> Point
+    requires { ⌜ 2 * i + 1 < length (now a) ⌝ }
+    ensures { λ r. ⌜ r ≡ pointAt (pointsOf (now (a .entry))) i ⌝ }
+{
+    Point {
+        x: a[2 * i],
+        y: a[2 * i + 1],
+    }
+}
+
+fn put_point(a: &mut [i32], i: usize, p: Point)
+    requires { ⌜ 2 * i + 1 < length (now a) ⌝ }
+    ensures { λ r. ⌜ now (a .exit) ≡ put (now (a .entry)) i p ⌝ }
+{
+    let x = p.x;
+    let y = p.y;
+    a[2 * i] = x;
+    a[2 * i + 1] = y;
+}
+
+// The place of the first point equal to p among the first n, and n where there is none.
+fn place_of(a: &[i32], n: usize, p: Point) -> usize
+    requires { ⌜ 2 * n ≤ length (now a) ⌝ }
+    ensures { λ r. ⌜ r ≡ Option·getD (placeOf p (held n (now (a .entry)))) n ⌝ }
+{
+    let mut i = 0;
+    while i < n {
+        if same_point(p, point_at(a, i)) {
+            return i;
+        }
+        i += 1;
+    }
+    i
+}
+
+// Toggles a point: a present one is removed and the last takes its place, an absent one is added. Gives the new count.
+fn toggled(a: &mut [i32], n: usize, p: Point) -> usize
+    requires { ⌜ (2 * n ≤ length (now a)) × (2 * length (toggle (held n (now a)) p) ≤ length (now a)) ⌝ }
+    ensures { λ r. ⌜ r ≡ length (toggle (held n (now (a .entry))) p) ⌝ }
+    ensures { λ r. ⌜ now (a .exit) ≡ workOf (most n r) (toggle (held n (now (a .entry))) p) (now (a .entry)) ⌝ }
+{
+    let i = place_of(a, n, p);
+    if i < n {
+        let last = n - 1;
+        let q = point_at(a, last);
+        put_point(a, i, q);
+        put_point(a, last, zero());
+        last
+    } else {
+        put_point(a, n, p);
+        n + 1
+    }
+}
+
+// ---- K, L and the width
+
+// What a scan of the points looks for: any point, one right of k on its row, or one above k from its column to before l's.
+enum Seek {
+    Any,
+    RightOf { k: Point },
+    Over { k: Point, l: Point },
+}
+
+fn is_right_of(k: Point, p: Point) -> bool
+    ensures { λ r. ⌜ r ≡ rightOf k p ⌝ }
+{
+    (p.y == k.y) & (k.x < p.x)
+}
+
+fn is_over(k: Point, l: Point, p: Point) -> bool
+    ensures { λ r. ⌜ r ≡ overWidth k l p ⌝ }
+{
+    (k.y < p.y) & ((k.x <= p.x) & (p.x < l.x))
+}
+
+fn is_sought(what: Seek, p: Point) -> bool
+    ensures { λ r. ⌜ r ≡ sought what p ⌝ }
+{
+    match what {
+        Seek::Any => true,
+        Seek::RightOf { k } => is_right_of(k, p),
+        Seek::Over { k, l } => is_over(k, l, p),
+    }
+}
+
+// The first point sought, in the order of y, then x, and `none` where there is none.
+fn first_of(a: &[i32], n: usize, what: Seek, none: Point) -> Point
+    requires { ⌜ 2 * n ≤ length (now a) ⌝ }
+    ensures { λ r. ⌜ r ≡ Option·getD (firstOf (sought what) (held n (now (a .entry)))) none ⌝ }
+{
+    let mut found = false;
+    let mut best = none;
+    let mut i = 0;
+    while i < n {
+        let p = point_at(a, i);
+        let passes = is_sought(what, p);
+        best = pick(passes & (!found | comes_before(p, best)), p, best);
+        found = found | passes;
+        i += 1;
+    }
+    best
+}
+
+// ---- The stop row
+
+// The rows in a table, a point for each: how many, and the end that they are below.
+struct OddRows {
+    count: usize,
+    end: Point,
+}
+
+fn rows_below(end: Point, count: usize) -> OddRows
+    ensures { λ r. ⌜ r ≡ record { count = count; end = end } ⌝ }
+{
+    OddRows {
+        count: count,
+        end: end,
+    }
+}
+
+// Left of k, from low's row to below end's.
+fn is_beside(k: Point, low: Point, end: Point, p: Point) -> bool
+    ensures { λ r. ⌜ r ≡ beside k low end p ⌝ }
+{
+    (p.x < k.x) & ((low.y <= p.y) & (p.y < end.y))
+}
+
+fn is_above(p: Point, q: Point) -> bool
+    ensures { λ r. ⌜ r ≡ ltZ (q .y) (p .y) ⌝ }
+{
+    q.y < p.y
+}
+
+// A point of the first n on their highest row.
+fn highest_of(a: &[i32], n: usize) -> Point
+    requires { ⌜ (0 < n) × (2 * n ≤ length (now a)) ⌝ }
+    ensures { λ r. ⌜ IsHighest (held n (now (a .entry))) r ⌝ }
+{
+    let mut best = point_at(a, 0);
+    let mut i = 1;
+    while i < n {
+        let p = point_at(a, i);
+        best = pick(is_above(p, best), p, best);
+        i += 1;
+    }
+    best
+}
+
+// Toggles p in a table of fewer rows than `limit`. If they are `limit` then, the highest is given up and is their end.
+fn toggle_within(rows: &mut [i32], odd: OddRows, limit: usize, p: Point) -> OddRows
+    requires { ⌜ (odd .count < limit) × (2 ≤ limit) × (2 * limit ≤ length (now rows)) ⌝ }
+    ensures { λ r. ⌜ r .count < limit ⌝ }
+    ensures { λ r. ⌜ Toggled p (odd .end) (held (odd .count) (now (rows .entry))) (r .end) (held (r .count) (now (rows .exit))) ⌝ }
+{
+    let count = toggled(rows, odd.count, p);
+    if count < limit {
+        return rows_below(odd.end, count);
+    }
+    let top = highest_of(rows, count);
+    rows_below(top, toggled(rows, count, top))
+}
+
+// Leaves in the table the points of k's column on the rows with an odd number of points left of k, each once, from low's row to
+// below an end: that is m, or a lower row, where `limit` rows were odd at once.
+fn odd_rows(
+    a: &[i32],
+    n: usize,
+    k: Point,
+    low: Point,
+    m: Point,
+    limit: usize,
+    rows: &mut [i32],
+) -> OddRows
+    requires { ⌜ (2 * n ≤ length (now a)) × (2 ≤ limit) × (2 * limit ≤ length (now rows)) × (ltZ (low .y) (m .y) ≡ true) ⌝ }
+    ensures { λ r. ⌜ 2 * r .count ≤ length (now (rows .exit)) ⌝ }
+    ensures { λ r. ⌜ Between low m (r .end) ⌝ }
+    ensures { λ r. ⌜ OddBeside k low (r .end) (held n (now (a .entry))) (held (r .count) (now (rows .exit))) ⌝ }
+{
+    let mut odd = rows_below(m, 0);
+    let mut i = 0;
+    while i < n {
+        let p = point_at(a, i);
+        if is_beside(k, low, odd.end, p) {
+            odd = toggle_within(rows, odd, limit, corner(k, p));
+        }
+        i += 1;
+    }
+    odd
+}
+
+// Twice the limit, or the same where that is more than 1024.
+fn doubled(limit: usize) -> usize
+    requires { ⌜ (2 ≤ limit) × (limit ≤ 1024) ⌝ }
+    ensures { λ r. ⌜ (2 ≤ r) × (r ≤ 1024) ⌝ }
+{
+    if limit <= 512 { 2 * limit } else { limit }
+}
+
+// (xK, M): the lowest row with a point over the width, or a lower one with an odd number of points left of K. No row below
+// `low` is such a one. A pass with a small limit is fast; where it gives up rows and finds none below them, the next goes on there.
+fn stop_row(a: &[i32], n: usize, k: Point, l: Point) -> Point
+    requires { ⌜ Begun (now a) n k l ⌝ }
+    ensures { λ r. ⌜ r ≡ record { x = k .x; y = pickM k l (held n (now (a .entry))) } ⌝ }
+{
+    let over = first_of(a, n, Seek::Over { k: k, l: l }, k);
+    let mut rows: [i32; 2048] = [0; 2048];
+    let mut low = k;
+    let mut limit = 16;
+    while low.y < over.y {
+        let odd = odd_rows(a, n, k, low, over, limit, &mut rows);
+        if 0 < odd.count {
+            return first_of(&rows, odd.count, Seek::Any, k);
+        }
+        low = odd.end;
+        limit = doubled(limit);
+    }
+    corner(k, over)
+}
+
+// ---- One step
+
+// Toggles K, L, (xK, M) and (xL, M), in this order. Gives the new count.
+fn toggle_four(a: &mut [i32], n: usize, k: Point, l: Point, m: Point) -> usize
+    requires { ⌜ Begun (now a) n k l ⌝ }
+    ensures { λ r. ⌜ r ≡ length (toggleFour (held n (now (a .entry))) k l (m .y)) ⌝ }
+    ensures { λ r. ⌜ now (a .exit) ≡ workOf n (toggleFour (held n (now (a .entry))) k l (m .y)) (now (a .entry)) ⌝ }
+{
+    let n1 = toggled(a, n, k);
+    let n2 = toggled(a, n1, l);
+    let n3 = toggled(a, n2, corner(k, m));
+    toggled(a, n3, corner(l, m))
+}
+
+// The rectangle from K to L and M.
+fn reached(k: Point, l: Point, m: Point) -> Rect
+    requires { ⌜ SFits w32 (l .x -ℤ k .x) × SFits w32 (m .y -ℤ k .y) ⌝ }
+    ensures { λ r. ⌜ r ≡ rectOf k l (m .y) ⌝ }
+{
+    Rect {
+        x: k.x,
+        y: k.y,
+        w: l.x - k.x,
+        h: m.y - k.y,
+    }
+}
+
+// A step of points that are known to be accepted: only DRAINED is left to be refused.
+fn take_rectangle(work: &mut [i32], n: usize) -> StepAnswer
+    requires { ⌜ Holds (now work) n ⌝ }
+    ensures { λ r. ⌜ StepDone (now (work .entry)) n r (now (work .exit)) ⌝ }
+{
+    if n == 0 {
+        return StepAnswer::Refused {
+            answer: DRAINED,
+            place: 0,
+        };
+    }
+    let k = first_of(work, n, Seek::Any, zero());
+    let l = first_of(work, n, Seek::RightOf { k: k }, k);
+    let m = stop_row(work, n, k, l);
+    let count = toggle_four(work, n, k, l, m);
+    StepAnswer::Rectangle {
+        rect: reached(k, l, m),
+        count: count,
+    }
+}
+
+// ---- Checks
+
+// What checks in order say: nothing is refused, or the first refusal.
+enum Screen {
+    Clear,
+    Refused { answer: u32, place: u64 },
+}
+
+fn is_in_range(p: Point) -> bool
+    ensures { λ r. ⌜ r ≡ pointInRange p ⌝ }
+{
+    ((-1_000_000_000 <= p.x) & (p.x <= 1_000_000_000))
+        & ((-1_000_000_000 <= p.y) & (p.y <= 1_000_000_000))
+}
+
+fn is_on_line(column: bool, p: Point, q: Point) -> bool
+    ensures { λ r. ⌜ r ≡ onLine column p q ⌝ }
+{
+    if column { q.x == p.x } else { q.y == p.y }
+}
+
+// Whether p's column, or else p's row, has an odd count.
+fn is_odd_line(a: &[i32], n: usize, column: bool, p: Point) -> bool
+    requires { ⌜ 2 * n ≤ length (now a) ⌝ }
+    ensures { λ r. ⌜ r ≡ odd (onLine column p) (held n (now (a .entry))) ⌝ }
+{
+    let mut odd = false;
+    let mut i = 0;
+    while i < n {
+        odd = odd ^ is_on_line(column, p, point_at(a, i));
+        i += 1;
+    }
+    odd
+}
+
+// Whether the point at place i offends against the check with this number: RANGE, REPEATED, ROW or COLUMN.
+fn is_bad(a: &[i32], n: usize, number: u32, i: usize) -> bool
+    requires { ⌜ (2 * n ≤ length (now a)) × (i < n) ⌝ }
+    ensures { λ r. ⌜ r ≡ offends number (held n (now (a .entry))) i ⌝ }
+{
+    let p = point_at(a, i);
+    match number {
+        RANGE => !is_in_range(p),
+        REPEATED => place_of(a, i, p) < i,
+        ROW => is_odd_line(a, n, false, p),
+        _ => is_odd_line(a, n, true, p),
+    }
+}
+
+// The first place that offends, and n where none does.
+fn first_bad(a: &[i32], n: usize, number: u32) -> usize
+    requires { ⌜ 2 * n ≤ length (now a) ⌝ }
+    ensures { λ r. ⌜ r ≡ Option·getD (placeGiven (pointCheck number (held n (now (a .entry))))) n ⌝ }
+{
+    let mut i = 0;
+    while i < n {
+        if is_bad(a, n, number, i) {
+            return i;
+        }
+        i += 1;
+    }
+    i
+}
+
+// Each check runs over all the points before the next one starts.
+fn check_points(a: &[i32], n: usize) -> Screen
+    requires { ⌜ 2 * n ≤ length (now a) ⌝ }
+    ensures { λ r. ⌜ r ≡ screenOf (verdict (pointChecks (held n (now (a .entry))))) ⌝ }
+{
+    let mut number = RANGE;
+    while number <= COLUMN {
+        let i = first_bad(a, n, number);
+        if i < n {
+            return Screen::Refused {
+                answer: number,
+                place: i as u64,
+            };
+        }
+        number += 1;
+    }
+    Screen::Clear
+}
+
+// A refusal of the whole, at place 0.
+fn refused(number: u32) -> Screen
+    ensures { λ r. ⌜ r ≡ Screen.Refused number 0 ⌝ }
+{
+    Screen::Refused {
+        answer: number,
+        place: 0,
+    }
+}
+
+// Forward's checks before the room is known.
+fn check_input(points: &[i32], work: usize) -> Screen
+    ensures { λ r. ⌜ r ≡ screenOf (verdict (inputChecks (now (points .entry)) work)) ⌝ }
+{
+    let n = points.len() / 2;
+    if points.len() % 2 != 0 {
+        return refused(LENGTH);
+    }
+    if MOST_POINTS < n {
+        return refused(MANY);
+    }
+    if work < 2 * n {
+        return refused(WORK);
+    }
+    check_points(points, n)
+}
+
+// A step's checks.
+fn check_work(work: &[i32], n: usize) -> Screen
+    ensures { λ r. ⌜ r ≡ screenOf (verdict (stepChecks (now (work .entry)) n)) ⌝ }
+{
+    if MOST_POINTS < n {
+        return refused(MANY);
+    }
+    if work.len() < 2 * n {
+        return refused(WORK);
+    }
+    if n == 0 {
+        return refused(DRAINED);
+    }
+    check_points(work, n)
+}
+
+// ---- The list
+
+// Copies the first n numbers.
+fn copy_in(from: &[i32], to: &mut [i32], n: usize)
+    requires { ⌜ (n ≤ length (now from)) × (n ≤ length (now to)) ⌝ }
+    ensures { λ r. ⌜ now (to .exit) ≡ take n (now (from .entry)) ++ drop n (now (to .entry)) ⌝ }
+{
+    let mut i = 0;
+    while i < n {
+        let z = from[i];
+        to[i] = z;
+        i += 1;
+    }
+}
+
+// Puts a rectangle at place i of the output.
+fn put_rect(out: &mut [i32], i: usize, r: Rect)
+    requires { ⌜ 4 * i + 3 < length (now out) ⌝ }
+    ensures { λ u. ⌜ now (out .exit) ≡ putRect (now (out .entry)) i r ⌝ }
+{
+    let x = r.x;
+    let y = r.y;
+    let w = r.w;
+    let h = r.h;
+    out[4 * i] = x;
+    out[4 * i + 1] = y;
+    out[4 * i + 2] = w;
+    out[4 * i + 3] = h;
+}
+
+fn area_of(r: Rect) -> u64
+    requires { ⌜ flat r ≡ false ⌝ }
+    ensures { λ u. ⌜ u ≡ areaOf r ⌝ }
+{
+    let w = r.w;
+    let h = r.h;
+    (w as u64) * (h as u64)
+}
+
+fn edge_of(r: Rect) -> u64
+    requires { ⌜ flat r ≡ false ⌝ }
+    ensures { λ u. ⌜ u ≡ edgeOf r ⌝ }
+{
+    let w = r.w;
+    let h = r.h;
+    2 * ((w as u64) + (h as u64))
+}
+
+// Steps until no point is left, and counts the rectangles. The step's only refusal here is DRAINED.
+fn count_rectangles(work: &mut [i32], n: usize) -> usize
+    requires { ⌜ Holds (now work) n ⌝ }
+    ensures { λ r. ⌜ r ≡ length (ruleList (held n (now (work .entry)))) ⌝ }
+    ensures { λ r. ⌜ now (work .exit) ≡ workOf n [] (now (work .entry)) ⌝ }
+{
+    let mut rest = n;
+    let mut counted: usize = 0;
+    loop {
+        match take_rectangle(work, rest) {
+            StepAnswer::Rectangle { rect: _, count } => {
+                rest = count;
+                counted += 1;
+            }
+            StepAnswer::Refused {
+                answer: _,
+                place: _,
+            } => {
+                return counted;
+            }
+        }
+    }
+}
+
+// Steps until no point is left, writes the rectangles, and sums their areas and edges.
+fn write_rectangles(work: &mut [i32], n: usize, rects: &mut [i32]) -> ForwardAnswer
+    requires { ⌜ Holds (now work) n ⌝ }
+    requires { ⌜ 4 * length (ruleList (held n (now work))) ≤ length (now rects) ⌝ }
+    ensures { λ r. ⌜ r ≡ forwardSays accepted (ruleList (held n (now (work .entry)))) ⌝ }
+    ensures { λ r. ⌜ now (work .exit) ≡ workOf n [] (now (work .entry)) ⌝ }
+    ensures { λ r. ⌜ now (rects .exit) ≡ written accepted (flatRects (ruleList (held n (now (work .entry))))) (now (rects .entry)) ⌝ }
+{
+    let mut left = n;
+    let mut made: usize = 0;
+    let mut area: u64 = 0;
+    let mut edge: u64 = 0;
+    loop {
+        match take_rectangle(work, left) {
+            StepAnswer::Rectangle { rect, count } => {
+                put_rect(rects, made, rect);
+                area += area_of(rect);
+                edge += edge_of(rect);
+                left = count;
+                made += 1;
+            }
+            StepAnswer::Refused {
+                answer: _,
+                place: _,
+            } => {
+                return ForwardAnswer {
+                    answer: DONE,
+                    place: 0,
+                    count: made,
+                    area: area,
+                    edge: edge,
+                };
+            }
+        }
+    }
+}
+
+// An answer that is a refusal.
+fn no_list(answer: u32, place: u64) -> ForwardAnswer
+    ensures { λ r. ⌜ r ≡ record { answer = answer; place = place; count = 0; area = 0; edge = 0 } ⌝ }
+{
+    ForwardAnswer {
+        answer: answer,
+        place: place,
+        count: 0,
+        area: 0,
+        edge: 0,
+    }
+}
+
+// Forward of points that are accepted: counts the rectangles, and writes only where all have room.
+fn fracture(points: &[i32], work: &mut [i32], rects: &mut [i32]) -> ForwardAnswer
+    requires { ⌜ ForwardAccepted (now points) (length (now work)) (4 * length (ruleList (pointsOf (now points)))) ⌝ }
+    ensures { λ r. ⌜ ForwardDone (now (points .entry)) (now (work .entry)) (now (rects .entry)) r (now (work .exit)) (now (rects .exit)) ⌝ }
+{
+    let n = points.len() / 2;
+    copy_in(points, work, 2 * n);
+    let needed = count_rectangles(work, n);
+    if rects.len() / 4 < needed {
+        return no_list(ROOM, needed as u64);
+    }
+    copy_in(points, work, 2 * n);
+    write_rectangles(work, n, rects)
+}
+
+// ---- The public functions
+
+// The rectangles of the array's points, written to `rects`, with their count, area and edge; or a refusal, which leaves `rects` as it
+// was. `points` is only read; `work` needs two numbers for each point.
+pub fn forward(points: &[i32], work: &mut [i32], rects: &mut [i32]) -> ForwardAnswer
+    ensures { λ r. ⌜ ForwardDone (now (points .entry)) (now (work .entry)) (now (rects .entry)) r (now (work .exit)) (now (rects .exit)) ⌝ }
+{
+    match check_input(points, work.len()) {
+        Screen::Clear => fracture(points, work, rects),
+        Screen::Refused { answer, place } => no_list(answer, place),
+    }
+}
+
+// One rectangle of the `count` points at the start of `work`, which then holds the points that are left, and their count; or a
+// refusal, which leaves `work` as it was.
+pub fn step(work: &mut [i32], count: usize) -> StepAnswer
+    ensures { λ r. ⌜ StepDone (now (work .entry)) count r (now (work .exit)) ⌝ }
+{
+    match check_work(work, count) {
+        Screen::Clear => take_rectangle(work, count),
+        Screen::Refused { answer, place } => StepAnswer::Refused {
+            answer: answer,
+            place: place,
+        },
+    }
+}

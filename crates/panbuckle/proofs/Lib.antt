@@ -1,6 +1,4 @@
-pub mod Bits
 pub mod Scan
-pub mod Search
 pub mod Screens
 pub mod Copied
 pub mod Toggling

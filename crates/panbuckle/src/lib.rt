@@ -20,30 +20,18 @@ ghost use Rattle.panbuckle.specs.Inner.{held, put, putRect, Holds, cross
 ghost use Rattle.panbuckle.specs.Contracts.{ForwardDone, StepDone};
 pub use plane::Point;
 pub use plane::Rect;
+pub use rule::COLUMN;
+pub use rule::DONE;
+pub use rule::DRAINED;
 pub use rule::ForwardAnswer;
+pub use rule::LENGTH;
+pub use rule::MANY;
+pub use rule::RANGE;
+pub use rule::REPEATED;
+pub use rule::ROOM;
+pub use rule::ROW;
 pub use rule::StepAnswer;
-
-// ---- The numbers of the answers
-
-pub const DONE: u32 = 0;
-
-pub const LENGTH: u32 = 1;
-
-pub const MANY: u32 = 2;
-
-pub const WORK: u32 = 3;
-
-pub const RANGE: u32 = 4;
-
-pub const REPEATED: u32 = 5;
-
-pub const ROW: u32 = 6;
-
-pub const COLUMN: u32 = 7;
-
-pub const ROOM: u32 = 8;
-
-pub const DRAINED: u32 = 10;
+pub use rule::WORK;
 
 // The most points that forward and a step take.
 pub const MOST_POINTS: usize = 4096;

@@ -1,6 +1,7 @@
 -- Points and rectangles as arrays of numbers, and back.
 use mathlib.Core.Path.{_≡_, refl, ap, _∙_}
 use Prim.Native.Nat.{ℕ, zero, suc, _+_, _*_, _/_, _<_, _≤_}
+use native.Mathlib.Nat.{suc-add}
 use native.Mathlib.Numerals.{add-one}
 use native.Mathlib.Omega.{arith}
 use mathlib.Core.List.{List, [], _∷_, _++_}
@@ -82,6 +83,20 @@ length-rects (x ∷ []) = refl
 length-rects (x ∷ y ∷ []) = refl
 length-rects (x ∷ y ∷ w ∷ []) = refl
 length-rects (x ∷ y ∷ w ∷ h ∷ rest) = let i = length-rects rest in omega arith
+
+-- four numbers more for one place more
+four-suc : (i : ℕ) → 4 * suc i ≡ suc (suc (suc (suc (4 * i))))
+four-suc i = omega arith
+
+-- the rectangle at place i has the four numbers from 4i on
+pub rect-numbers : (a : List ℤ) (i : ℕ) → 4 * i + 3 < length a → getD (rectsOf a) i (record { x = pos 0; y = pos 0; w = pos 0; h = pos 0 }) ≡ record { x = getD a (4 * i) (pos 0); y = getD a (4 * i + 1) (pos 0); w = getD a (4 * i + 2) (pos 0); h = getD a (4 * i + 3) (pos 0) }
+unfolding rectsOf
+rect-numbers [] i l = absurd (omega arith)
+rect-numbers (x ∷ []) i l = absurd (omega arith)
+rect-numbers (x ∷ y ∷ []) i l = absurd (omega arith)
+rect-numbers (x ∷ y ∷ w ∷ []) i l = absurd (omega arith)
+rect-numbers (x ∷ y ∷ w ∷ h ∷ rest) zero l = refl
+rect-numbers (x ∷ y ∷ w ∷ h ∷ rest) (suc i) l = simp (four-suc, suc-add) (rect-numbers rest i (omega arith))
 
 -- rectangles as an array are four times as many numbers
 pub length-flat-rects : (rs : List Rect) → length (flatRects rs) ≡ 4 * length rs

@@ -2,7 +2,7 @@
 use mathlib.Core.Path.{_≡_, refl, sym, _∙_}
 use Prim.Native.Nat.{ℕ, zero, suc, _+_, _≤_}
 use native.Mathlib.Omega.{arith}
-use mathlib.Core.Bool.{Bool, true, false, not, cond, _&&_, _||_, xor, true≢false, false≢true}
+use mathlib.Core.Bool.{Bool, true, false, not, cond, _&&_, _||_, xor, true≢false, false≢true, and-false}
 use Rattle.plane.specs.Lists.{bit}
 
 -- ---- Tests as facts
@@ -40,6 +40,12 @@ and-four a b c d e =
     let r = and-parts c d (h .1) in
     (l .0, l .1, r .0, r .1)
 
+-- two conjunctions, paired otherwise
+pub and-swap : (a b c d : Bool) → ((a && b) && (c && d)) ≡ ((a && c) && (b && d))
+and-swap true b true d = refl
+and-swap true b false d = and-false b
+and-swap false b c d = refl
+
 pub or-parts : (a b : Bool) → (a || b) ≡ false → (a ≡ false) × (b ≡ false)
 or-parts true b e = absurd (true≢false e)
 or-parts false b e = (refl, e)
@@ -52,6 +58,13 @@ or-right false b e = e
 pub cond-case : {X : Type 0} (P : X → Type 0) (c : Bool) {x y : X} → (c ≡ true → P x) → (c ≡ false → P y) → P (cond c x y)
 cond-case P true f g = f refl
 cond-case P false f g = g refl
+
+-- the branch taken
+pub cond-true : {X : Type 0} (c : Bool) (x y : X) → c ≡ true → cond c x y ≡ x
+cond-true c x y e = rw e
+
+pub cond-false : {X : Type 0} (c : Bool) (x y : X) → c ≡ false → cond c x y ≡ y
+cond-false c x y e = rw e
 
 -- ---- Exclusive or
 

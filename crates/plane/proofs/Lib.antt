@@ -1,5 +1,6 @@
 pub mod Order
 pub mod Bools
+pub mod Bits
 pub mod Sums
 pub mod Parity
 pub mod Points

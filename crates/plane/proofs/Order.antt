@@ -7,7 +7,7 @@ use native.Mathlib.Omega.{arith}
 use mathlib.Core.Bool.{true, false, true≢false, false≢true}
 use lib.Dec.{ltb}
 use borrow.Author.Tests.{ltb-true, ltb-false, leb-true, leb-false, eqb-true, eq-eqb}
-use lib.IntN.{ℤ, pos, negsuc, subℕ, predℤ, _+ℤ_, _-ℤ_, +ℤ-comm, -ℤ-+ℤ-cancel}
+use lib.IntN.{ℤ, pos, negsuc, natAbs, subℕ, predℤ, _+ℤ_, _-ℤ_, +ℤ-comm, -ℤ-+ℤ-cancel}
 use lib.Signed.{mag, leZ, ltZ}
 use Rattle.plane.specs.Words.{eqZ, lowEnd, highEnd, inRange}
 use Rattle.plane.proofs.Bools.{by, by-no, and-parts, cond-case}
@@ -121,6 +121,17 @@ add-up (pos a) (negsuc b) = omega (arith, sub-up a (suc b))
 add-up (negsuc a) (pos b) = omega (arith, sub-up b (suc a))
 add-up (negsuc a) (negsuc b) = omega arith
 
+-- a difference has at most the magnitude of both numbers together
+mag-sub : (a b : ℕ) → mag (subℕ a b) ≤ a + b
+mag-sub a b = cond-case (λ z. mag z ≤ a + b) (ltb a b) (λ e. omega arith) (λ e. omega arith)
+
+-- a sum at most one more than that
+pub mag-add : (a b : ℤ) → mag (a +ℤ b) ≤ mag a + mag b + 1
+mag-add (pos a) (pos b) = omega arith
+mag-add (pos a) (negsuc b) = omega (arith, mag-sub a (suc b))
+mag-add (negsuc a) (pos b) = omega (arith, mag-sub b (suc a))
+mag-add (negsuc a) (negsuc b) = omega arith
+
 -- a number that is at least 1 makes a sum greater
 pub add-more : (a b : ℤ) → ltZ b (pos 1) ≡ false → ltZ a (a +ℤ b) ≡ true
 unfolding up dn
@@ -133,6 +144,12 @@ pub pos-up : (n : ℕ) → (up (pos n) ≡ n) × (dn (pos n) ≡ 0)
 unfolding up dn
 pos-up n = (refl, refl)
 
+-- the magnitude of a number that is not negative
+pub abs-up : (z : ℤ) → dn z ≤ up z → natAbs z + dn z ≡ up z
+unfolding up dn
+abs-up (pos n) h = omega arith
+abs-up (negsuc n) h = absurd (omega arith)
+
 pub pred-up : (z : ℤ) → up (predℤ z) + dn z + 1 ≡ dn (predℤ z) + up z
 unfolding up dn
 pred-up (pos zero) = omega arith
@@ -142,17 +159,25 @@ pred-up (negsuc n) = omega arith
 -- ---- The range
 
 -- a number at most n above 0 and at most n below has magnitude at most n
-mag-most : (z : ℤ) (n : ℕ) → up z ≤ dn z + n → dn z ≤ up z + n → mag z ≤ n
+pub mag-most : (z : ℤ) (n : ℕ) → up z ≤ dn z + n → dn z ≤ up z + n → mag z ≤ n
 unfolding up dn
 mag-most (pos m) n g h = omega arith
 mag-most (negsuc m) n g h = omega arith
 
+-- a number in range is at most 10^9 above 0 and at most 10^9 below
+pub range-up : (z : ℤ) → inRange z ≡ true → (up z ≤ dn z + 1_000_000_000) × (dn z ≤ up z + 1_000_000_000)
+unfolding inRange up dn
+range-up z e = let h = and-parts (leZ lowEnd z) (leZ z highEnd) e in (omega order, omega order)
+
+-- so its magnitude is small
+pub range-most : (z : ℤ) → inRange z ≡ true → mag z ≤ 1_000_000_000
+range-most z e = let h = range-up z e in mag-most z 1_000_000_000 (omega arith) (omega arith)
+
 -- two numbers in range are at most 2·10^9 apart
 pub apart-most : (a b : ℤ) → inRange a ≡ true → inRange b ≡ true → mag (b -ℤ a) ≤ 2_000_000_000
-unfolding inRange up dn
 apart-most a b e f =
-    let g = and-parts (leZ lowEnd a) (leZ a highEnd) e in
-    let h = and-parts (leZ lowEnd b) (leZ b highEnd) f in
+    let g = range-up a e in
+    let h = range-up b f in
     let s = add-up a (b -ℤ a) in
     let t = far-side a b in
     mag-most (b -ℤ a) 2_000_000_000 (omega order) (omega order)

@@ -4,8 +4,8 @@ use Prim.Native.Nat.{_≤_}
 use native.Mathlib.Omega.{arith}
 use mathlib.Core.Bool.{Bool, true, false, not, _&&_, xor, false≢true, and-assoc, and-false}
 use mathlib.Core.List.{List, [], _∷_, _++_, List·Memᴰ as In, List·Memᴰ·head as head, List·Memᴰ·tail as tail}
-use Rattle.plane.specs.Lists.{bit, any, count, odd, sum}
-use Rattle.plane.proofs.Bools.{clash, by, iff, and-parts, xor-self, xor-false, false-xor, xor-assoc, xor-swap, isOdd, isOdd-bit}
+use Rattle.plane.specs.Lists.{bit, any, count, odd, sum, keep, only}
+use Rattle.plane.proofs.Bools.{clash, by, iff, and-parts, xor-self, xor-false, false-xor, xor-back, xor-assoc, xor-swap, isOdd, isOdd-bit}
 use Rattle.plane.proofs.Sums.{sum-zero, any-find, any-in, count-sum, count-in, count-none}
 
 module _ {A : Type 0} where
@@ -41,6 +41,15 @@ module _ {A : Type 0} where
   odd-append f [] m = sym (false-xor (odd f m))
   odd-append f (a ∷ l) m = rw (odd-append f l m) (sym (xor-assoc (f a) (odd f l) (odd f m)))
 
+  -- with one more element at the end
+  pub odd-last-added : (f : A → Bool) (l : List A) (a : A) → odd f (l ++ (a ∷ [])) ≡ xor (odd f l) (f a)
+  odd-last-added f l a = odd-append f l (a ∷ []) ∙ rw (odd-cons, odd-none-of f, xor-false)
+
+  -- without the same first element
+  pub odd-rest : (f : A → Bool) (a : A) (l m : List A) → odd f (a ∷ l) ≡ odd f (a ∷ m) → odd f l ≡ odd f m
+  unfolding odd
+  odd-rest f a l m e = sym (xor-back (f a) (odd f l)) ∙ ap (xor (f a)) e ∙ xor-back (f a) (odd f m)
+
   pub odd-xor : (f g : A → Bool) (l : List A) → odd (λ a. xor (f a) (g a)) l ≡ xor (odd f l) (odd g l)
   unfolding odd
   odd-xor f g [] = sym (xor-self false)
@@ -53,6 +62,16 @@ module _ {A : Type 0} where
       go : (b c : Bool) → c ≡ xor (b && c) (not b && c)
       go true c = sym (xor-false c)
       go false c = sym (false-xor c)
+
+  -- the parity of a test over the elements that pass another
+  pub odd-only : (f g : A → Bool) (l : List A) → odd f (only g l) ≡ odd (λ a. g a && f a) l
+  unfolding odd only
+  odd-only f g [] = refl
+  odd-only f g (a ∷ l) = go (odd-only f g l) (g a)
+    where
+      go : odd f (only g l) ≡ odd (λ b. g b && f b) l → (t : Bool) → odd f (keep t a (only g l)) ≡ xor (t && f a) (odd (λ b. g b && f b) l)
+      go ih true = rw ih
+      go ih false = ih ∙ sym (false-xor _)
 
   -- a test that just one element passes
   pub odd-one : (f : A → Bool) {l : List A} {a : A} → In a l → f a ≡ true → count f l ≤ 1 → odd f l ≡ true

@@ -2,20 +2,20 @@
 -- every line of points is even.
 use mathlib.Core.Path.{_≡_, refl, sym, ap, _∙_, subst}
 use mathlib.Core.Logic.{_↔_, Iff·trans}
-use Prim.Native.Nat.{ℕ, zero, suc, _+_, _≤_, _<_}
+use Prim.Native.Nat.{ℕ, zero, suc, _+_, _-_, _≤_, _<_}
 use native.Mathlib.Omega.{arith}
 use mathlib.Core.Bool.{Bool, true, false, not, cond}
 use mathlib.Core.List.{List, [], _∷_, _++_, List·Memᴰ as In, List·Memᴰ·head as head, List·Memᴰ·tail as tail}
-use lib.ListN.{length, getD, take, drop, set, take-append-drop, drop-of-length-le}
-use lib.Seq.{drop-cons, set-split}
+use lib.ListN.{length, getD, take, drop, set, drop-of-length-le}
+use lib.Seq.{take-suc, drop-cons, set-split}
 use lib.IntN.{ℤ}
 use borrow.Author.Tests.{not-false}
 use Rattle.plane.specs.declared.Point.{Point}
-use Rattle.plane.specs.Lists.{bit, any, count, odd, sum}
+use Rattle.plane.specs.Lists.{bit, any, count, odd}
 use Rattle.plane.specs.Words.{origin, same, onRow, inColumn}
 use Rattle.plane.proofs.Order.{eqZ-is}
 use Rattle.plane.proofs.Bools.{clash, by-no, or-parts}
-use Rattle.plane.proofs.Sums.{sum-append, any-find, count-sum, count-in, count-find}
+use Rattle.plane.proofs.Sums.{sum-parts, any-find, count-sum, count-in, count-find}
 use Rattle.plane.proofs.Parity.{odd-find}
 use Rattle.plane.proofs.Points.{same-is, same-refl}
 
@@ -33,6 +33,10 @@ module _ {A : Type 0} where
   at-in d (head e) = (0, omega arith, sym e)
   at-in d (tail m) = let r = at-in d m in (suc (r .0), omega arith, r .2)
 
+  -- the first n elements are those before the last of them, and this
+  pub take-last : (l : List A) (n : ℕ) (d : A) → 0 < n → n ≤ length l → take n l ≡ take (n - 1) l ++ (getD l (n - 1) d ∷ [])
+  take-last l n d h m = let e : n ≡ suc (n - 1) = omega arith in ap (λ (i : ℕ). take i l) e ∙ take-suc l (n - 1) d (omega arith)
+
   -- an element set at the last place comes after the others
   pub set-last : (l : List A) (j : ℕ) (a : A) → length l ≡ j + 1 → set l j a ≡ take j l ++ (a ∷ [])
   set-last l j a e = set-split l j a (omega arith) ∙ ap (λ (m : List A). take j l ++ (a ∷ m)) (drop-of-length-le l {i = suc j} (omega arith))
@@ -47,10 +51,7 @@ module _ {A : Type 0} where
 
   -- how many pass before a place, and from there on
   count-split : (f : A → Bool) (l : List A) (i : ℕ) → count f l ≡ count f (take i l) + count f (drop i l)
-  count-split f l i =
-      let w : A → ℕ = λ a. bit (f a) in
-      let s : sum w (take i l) + sum w (drop i l) ≡ sum w l = rw (← sum-append w (take i l) (drop i l), take-append-drop i l) in
-      omega (arith, count-sum f l, count-sum f (take i l), count-sum f (drop i l))
+  count-split f l i = omega (arith, sum-parts (λ a. bit (f a)) i l, count-sum f l, count-sum f (take i l), count-sum f (drop i l))
 
   -- every line is even, if at every place the line of what stands there is; a line is the elements with one key
   lines-even : {B : Type 0} (key : A → B) (f : B → A → Bool) → ((b : B) (a : A) → f b a ≡ true → key a ≡ b) → (l : List A) (d : A) → ((i : ℕ) → i < length l → odd (f (key (getD l i d))) l ≡ false) ↔ ((b : B) → odd (f b) l ≡ false)

@@ -1,11 +1,11 @@
 -- Sums of a weight over a list, and what passes a test: any, how many.
-use mathlib.Core.Path.{_≡_, refl, ap, ap₂, _∙_}
+use mathlib.Core.Path.{_≡_, refl, ap, ap₂, sym, _∙_}
 use Prim.Native.Nat.{ℕ, zero, suc, _+_, _-_, _*_, _≤_, _<_}
 use native.Mathlib.Omega.{arith}
 use native.Mathlib.Decide.{ℕ-discrete}
 use mathlib.Core.Bool.{Bool, true, false, cond, _&&_, _||_, false≢true}
 use mathlib.Core.List.{List, [], _∷_, _++_, List·Memᴰ as In, List·Memᴰ·head as head, List·Memᴰ·tail as tail}
-use lib.ListN.{length, getD, take, set, length-set}
+use lib.ListN.{length, getD, take, drop, set, take-append-drop, length-set}
 use lib.Seq.{getD-set-same, getD-set-other}
 use Rattle.plane.specs.Lists.{bit, any, count, sum, keep, only}
 use Rattle.plane.proofs.Bools.{by, cond-le, or-parts, or-right}
@@ -17,6 +17,10 @@ module _ {A : Type 0} where
   unfolding sum
   sum-append w [] m = omega arith
   sum-append w (a ∷ l) m = let ih = sum-append w l m in omega arith
+
+  -- a list cut in two
+  pub sum-parts : (w : A → ℕ) (i : ℕ) (l : List A) → sum w (take i l) + sum w (drop i l) ≡ sum w l
+  sum-parts w i l = sym (sum-append w (take i l) (drop i l)) ∙ ap (sum w) (take-append-drop i l)
 
   -- with one more element at the end
   pub sum-last-added : (w : A → ℕ) (l : List A) (a : A) → sum w (l ++ (a ∷ [])) ≡ sum w l + w a
@@ -52,6 +56,12 @@ module _ {A : Type 0} where
       let b : sum w (take j (set l i v)) + w (getD (set l i v) j d) ≡ sum w (set l i v) = sum-last w (set l i v) d j (length-set l i v ∙ omega arith) in
       let c : w (getD (set l i v) j d) ≡ w v = ap w (last-set l i j d h) in
       omega arith
+
+  -- two elements change places
+  pub sum-swap : (w : A → ℕ) (l : List A) (i j : ℕ) (d : A) → i < length l → j < length l → sum w (set (set l i (getD l j d)) j (getD l i d)) ≡ sum w l
+  sum-swap w l i j d h g =
+      let v : A = getD l j d in
+      omega (arith, sum-set w l i v d h, sum-set w (set l i v) j (getD l i d) d (rw length-set g), ap w (last-set l i j d h))
 
   pub sum-in : (w : A → ℕ) {l : List A} {a : A} → In a l → w a ≤ sum w l
   unfolding sum
@@ -151,3 +161,43 @@ module _ {A : Type 0} where
       go true false s h = absurd (false≢true (s refl))
       go false true s h = omega arith
       go false false s h = h
+
+  -- ---- The elements that pass
+
+  -- what holds of a list both with an element before it and without it
+  pub keep-case : (P : List A → Type 0) (t : Bool) (a : A) (l : List A) → P (a ∷ l) → P l → P (keep t a l)
+  keep-case P true a l h g = h
+  keep-case P false a l h g = g
+
+  -- an element before a list, and another list after it
+  pub keep-append : (t : Bool) (a : A) (l m : List A) → keep t a l ++ m ≡ keep t a (l ++ m)
+  keep-append true a l m = refl
+  keep-append false a l m = refl
+
+  -- what passes is an element
+  pub in-only : (f : A → Bool) (l : List A) {a : A} → In a (only f l) → In a l
+  unfolding only
+  in-only f (b ∷ l) m = go (in-only f l) (f b) m
+    where
+      go : {a : A} → (In a (only f l) → In a l) → (t : Bool) → In a (keep t b (only f l)) → In a (b ∷ l)
+      go ih true (head e) = head e
+      go ih true (tail n) = tail (ih n)
+      go ih false n = tail (ih n)
+
+  -- no more pass than there are
+  pub length-only : (f : A → Bool) (l : List A) → length (only f l) ≤ length l
+  unfolding only
+  length-only f [] = omega arith
+  length-only f (a ∷ l) = let h = length-only f l in keep-case (λ (m : List A). length m ≤ length (a ∷ l)) (f a) a (only f l) (omega arith) (omega arith)
+
+  -- where each passes, all are left
+  pub only-all : (f : A → Bool) (l : List A) → ((a : A) → In a l → f a ≡ true) → only f l ≡ l
+  unfolding only
+  only-all f [] h = refl
+  only-all f (a ∷ l) h = rw (h a (head refl)) (ap (λ m. a ∷ m) (only-all f l (λ b m. h b (tail m))))
+
+  -- where none does, nothing is
+  pub only-none : (f : A → Bool) (l : List A) → ((a : A) → In a l → f a ≡ false) → only f l ≡ []
+  unfolding only
+  only-none f [] h = refl
+  only-none f (a ∷ l) h = rw (h a (head refl)) (only-none f l (λ b m. h b (tail m)))

@@ -1,7 +1,10 @@
 -- The backward rule: its answer is the one rising list of the odd corners, it marks the cells that lie in an odd number of the rectangles, and forward accepts it.
-use mathlib.Core.Path.{_≡_, sym, _∙_, subst}
+use mathlib.Core.Path.{_≡_, refl, sym, _∙_, subst}
+use Prim.Native.Nat.{_*_, _≤_}
+use native.Mathlib.Omega.{arith}
 use mathlib.Core.Bool.{Bool, true, false, _&&_, xor}
 use mathlib.Core.List.{List, [], _∷_, List·Memᴰ as In, List·Memᴰ·head as head, List·Memᴰ·tail as tail, Memᴰ·append-left, Memᴰ·append-right}
+use lib.ListN.{length}
 use lib.IntN.{ℤ}
 use lib.Signed.{ltZ}
 use Rattle.plane.specs.declared.Point.{Point}
@@ -10,11 +13,11 @@ use Rattle.plane.specs.Lists.{any, odd, only}
 use Rattle.plane.specs.Words.{eqZ, inRange, lowerLeft, pointInRange, same, onRow, inColumn, risingAfter, rising, right, top, rectInRange, flat, cornersOf, holds, under, marks}
 use Rattle.plane.proofs.Order.{order, add-more}
 use Rattle.plane.proofs.Bools.{iff, and-parts, and-make, or-parts, xor-back, xor-self, xor-false, xor-assoc}
-use Rattle.plane.proofs.Sums.{any-find, any-in, any-only}
+use Rattle.plane.proofs.Sums.{any-find, any-in, any-only, length-only}
 use Rattle.plane.proofs.Parity.{odd-cons, odd-none-of, odd-cong, odd-none, odd-find, odd-append, once-odd}
 use Rattle.plane.proofs.Points.{same-is, same-refl, same-in, before-above, before-along}
 use Rattle.plane.proofs.Alike.{Alike, points-alike, alike-marks}
-use Rattle.plane.proofs.Rising.{rising-once, rising-unique, inOrder-rising, inOrder-has}
+use Rattle.plane.proofs.Rising.{rising-once, rising-unique, inOrder-rising, inOrder-has, inOrder-few}
 use Rattle.plane.proofs.Cells.{corners-under}
 use Rattle.rule.specs.Back.{isCorner, corners, oddCorner, backList}
 use Rattle.rule.specs.Table.{Accepted, AcceptedRects}
@@ -60,10 +63,23 @@ back-points rs p = inOrder-has (same p) (only (oddCorner rs) (corners rs)) ∙ a
 pub back-only : (rs : List Rect) (ps : List Point) → rising ps ≡ true → ((p : Point) → any (same p) ps ≡ oddCorner rs p) → ps ≡ backList rs
 back-only rs ps e h = rising-unique ps (backList rs) e (back-rising rs) (λ p. h p ∙ sym (back-points rs p))
 
+-- ---- How many points the answer has
+
+-- each rectangle has four corners
+length-corners : (rs : List Rect) → length (corners rs) ≡ 4 * length rs
+unfolding corners cornersOf
+length-corners [] = refl
+length-corners (r ∷ rs) = let h = length-corners rs in omega arith
+
+-- and the answer has at most as many points
+pub back-length : (rs : List Rect) → length (backList rs) ≤ 4 * length rs
+unfolding backList
+back-length rs = omega (arith, inOrder-few (only (oddCorner rs) (corners rs)), length-only (oddCorner rs) (corners rs), length-corners rs)
+
 -- ---- The answer has the parity of the corners
 
 -- a rectangle that is not flat has its far sides beyond the near ones
-solid-sides : (r : Rect) → flat r ≡ false → (ltZ (r .x) (right r) ≡ true) × (ltZ (r .y) (top r) ≡ true)
+pub solid-sides : (r : Rect) → flat r ≡ false → (ltZ (r .x) (right r) ≡ true) × (ltZ (r .y) (top r) ≡ true)
 unfolding flat
 solid-sides r e = let h = or-parts (ltZ (r .w) _) (ltZ (r .h) _) e in (add-more (r .x) (r .w) (h .0), add-more (r .y) (r .h) (h .1))
 
@@ -124,7 +140,7 @@ each-corner f r a b c d p (tail (tail (head e))) = rw e c
 each-corner f r a b c d p (tail (tail (tail (head e)))) = rw e d
 
 -- the corners of a rectangle in range are in range
-corner-range : (r : Rect) → rectInRange r ≡ true → (p : Point) → In p (cornersOf r) → pointInRange p ≡ true
+pub corner-range : (r : Rect) → rectInRange r ≡ true → (p : Point) → In p (cornersOf r) → pointInRange p ≡ true
 unfolding rectInRange pointInRange
 corner-range r e =
     let h = and-parts (inRange (r .x) && inRange (r .y)) (inRange (right r) && inRange (top r)) e in

@@ -1,5 +1,6 @@
 pub mod Cases
 pub mod Verdicts
+pub mod Search
 pub mod Refusals
 pub mod Toggle
 pub mod Picks

@@ -5,9 +5,9 @@ use mathlib.Core.Logic.{_≢_, _⊎_, inl, inr}
 use Prim.Native.Nat.{ℕ, suc, _+_, _-_, _*_, _/_, _≤_, _<_}
 use native.Mathlib.Omega.{arith}
 use native.Mathlib.Nat.{sub-zero}
-use mathlib.Core.List.{List, [], _∷_, _++_, append-assoc}
+use mathlib.Core.List.{List, [], _∷_, _++_, append-nil, append-assoc}
 use lib.ListN.{length, take, drop, replicate, length-append, length-take, length-drop, length-replicate, replicate-append-replicate}
-use lib.Seq.{take-append-seam, drop-append-seam, drop-append-add, drop-at, drop-drop, sets, sets-eq}
+use lib.Seq.{take-length, drop-length, take-append-seam, drop-append-seam, drop-append-add, take-at, drop-at, drop-drop, sets, sets-eq}
 use lib.IntN.{ℤ, pos}
 use lib.Dec.{eqb}
 use borrow.Author.Tests.{eqb-true, le-ltb, ne-eqb}
@@ -49,6 +49,13 @@ written-more result more out h =
     let i : ℕ = length result in
     let rest : List ℤ = drop i out in
     rw (sets-eq more (result ++ rest) i (omega (arith, length-append result rest, length-drop i out)), take-append-seam result rest, drop-append-add result rest (length more), drop-drop (length more) i out, length-append result more)
+
+-- so is another result written into the part after it
+pub written-part : (result more out : List ℤ) (i : ℕ) → length result ≡ i → let exit = written accepted result out in let n = length exit - i in take i exit ++ (written accepted more (take n (drop i exit)) ++ drop n (drop i exit)) ≡ written accepted (result ++ more) out
+written-part result more out i e =
+    let rest : List ℤ = drop (length result) out in
+    let n : length (result ++ rest) - i ≡ length rest = omega (arith, length-append result rest) in
+    rw (n, take-at result rest i e, drop-at result rest i e, take-length rest, drop-length rest, append-nil (more ++ drop (length more) rest), drop-drop (length more) (length result) out, length-append result more, append-assoc)
 
 -- ---- A working array
 

@@ -117,6 +117,12 @@ checks-read (r ∷ checks) = go (check-placed r) (checks-read checks)
     go (nowhere c) (passes h) = passes (c, h)
     go (nowhere c) (refuses f) = refuses (later (λ p. clear-given c) f)
 
+-- a check of the whole refuses exactly where it offends
+pub verdict-whole : (k : ℕ) (t : Bool) (checks : List Check) → verdict (whole k t ∷ checks) ≡ cond t (refused k 0) (verdict checks)
+unfolding verdict numberOf placeGiven
+verdict-whole k true checks = refl
+verdict-whole k false checks = refl
+
 -- with n for no place, a check of n items refuses exactly where its place is below n
 pub verdict-each : (k n : ℕ) (t : ℕ → Bool) (checks : List Check) → let i = Option·getD (placeGiven (each k n t)) n in verdict (each k n t ∷ checks) ≡ cond (ltb i n) (refused k i) (verdict checks)
 unfolding verdict numberOf

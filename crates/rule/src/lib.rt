@@ -22,3 +22,27 @@ pub enum StepAnswer {
     Rectangle { rect: Rect, count: usize },
     Refused { answer: u32, place: u64 },
 }
+
+// ---- The numbers of the answers
+
+pub const DONE: u32 = 0;
+
+pub const LENGTH: u32 = 1;
+
+pub const MANY: u32 = 2;
+
+pub const WORK: u32 = 3;
+
+pub const RANGE: u32 = 4;
+
+pub const REPEATED: u32 = 5;
+
+pub const ROW: u32 = 6;
+
+pub const COLUMN: u32 = 7;
+
+pub const ROOM: u32 = 8;
+
+pub const FLAT: u32 = 9;
+
+pub const DRAINED: u32 = 10;

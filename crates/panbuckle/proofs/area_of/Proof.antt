@@ -4,7 +4,7 @@ use native.Mathlib.Omega.{arith}
 use lib.Dec.{lit<}
 use borrow.Author.Needs.{needs}
 use Rattle.plane.specs.Words.{areaOf}
-use Rattle.panbuckle.proofs.Bits.{Side, sides}
+use Rattle.plane.proofs.Bits.{Side, sides}
 use Rattle.panbuckle.proofs.area_of.Statement.{statement}
 use Rattle.panbuckle.proofs.area_of.Tie as tie
 

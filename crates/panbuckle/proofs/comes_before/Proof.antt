@@ -1,7 +1,7 @@
 -- `panbuckle::comes_before` meets its contract.
 use borrow.Author.Needs.{needs}
 use Rattle.plane.specs.Words.{before}
-use Rattle.panbuckle.proofs.Bits.{eq-bits}
+use Rattle.plane.proofs.Bits.{eq-bits}
 use Rattle.panbuckle.proofs.comes_before.Statement.{statement}
 use Rattle.panbuckle.proofs.comes_before.Tie as tie
 

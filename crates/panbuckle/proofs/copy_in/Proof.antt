@@ -9,7 +9,7 @@ use lib.ListN.{length, take, drop, set, getD, length-set}
 use lib.Seq.{paste-suc}
 use lib.IntN.{ℤ, pos}
 use borrow.Author.Needs.{needs}
-use Rattle.panbuckle.proofs.Bits.{back}
+use Rattle.plane.proofs.Bits.{back}
 use Rattle.panbuckle.proofs.copy_in.Statement.{statement}
 use Rattle.panbuckle.proofs.copy_in.Tie as tie
 

@@ -2,7 +2,7 @@
 use native.Mathlib.Omega.{arith}
 use borrow.Author.Needs.{needs}
 use Rattle.plane.specs.Words.{edgeOf}
-use Rattle.panbuckle.proofs.Bits.{Side, sides}
+use Rattle.plane.proofs.Bits.{Side, sides}
 use Rattle.panbuckle.proofs.edge_of.Statement.{statement}
 use Rattle.panbuckle.proofs.edge_of.Tie as tie
 

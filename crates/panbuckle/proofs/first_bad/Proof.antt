@@ -6,7 +6,7 @@ use Rattle.rule.specs.Table.{placeGiven}
 use Rattle.rule.proofs.Verdicts.{NoneBelow, none-below-next}
 use Rattle.panbuckle.specs.Inner.{held, offends}
 use Rattle.panbuckle.proofs.Scan.{held-length}
-use Rattle.panbuckle.proofs.Search.{found, none-found}
+use Rattle.rule.proofs.Search.{found, none-found}
 use Rattle.panbuckle.proofs.first_bad.Statement.{statement}
 use Rattle.panbuckle.proofs.first_bad.Tie as tie
 

@@ -2,7 +2,7 @@
 use borrow.Author.Needs.{needs}
 use Rattle.plane.specs.Words.{onRow}
 use Rattle.rule.specs.Rule.{rightOf}
-use Rattle.panbuckle.proofs.Bits.{eq-bits}
+use Rattle.plane.proofs.Bits.{eq-bits}
 use Rattle.panbuckle.proofs.is_right_of.Statement.{statement}
 use Rattle.panbuckle.proofs.is_right_of.Tie as tie
 

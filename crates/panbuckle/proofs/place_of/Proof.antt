@@ -9,7 +9,7 @@ use Rattle.rule.proofs.Verdicts.{NoneBelow, none-below-next}
 use Rattle.rule.proofs.Toggle.{place-first}
 use Rattle.panbuckle.specs.Inner.{held}
 use Rattle.panbuckle.proofs.Scan.{held-length, held-at}
-use Rattle.panbuckle.proofs.Search.{found, none-found}
+use Rattle.rule.proofs.Search.{found, none-found}
 use Rattle.panbuckle.proofs.place_of.Statement.{statement}
 use Rattle.panbuckle.proofs.place_of.Tie as tie
 

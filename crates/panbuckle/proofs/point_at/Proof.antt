@@ -2,7 +2,7 @@
 use mathlib.Core.Path.{sym}
 use borrow.Author.Needs.{needs}
 use Rattle.plane.proofs.Arrays.{point-numbers}
-use Rattle.panbuckle.proofs.Bits.{back}
+use Rattle.plane.proofs.Bits.{back}
 use Rattle.panbuckle.proofs.point_at.Statement.{statement}
 use Rattle.panbuckle.proofs.point_at.Tie as tie
 

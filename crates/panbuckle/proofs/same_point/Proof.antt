@@ -1,7 +1,7 @@
 -- `panbuckle::same_point` meets its contract.
 use borrow.Author.Needs.{needs}
 use Rattle.plane.specs.Words.{same}
-use Rattle.panbuckle.proofs.Bits.{eq-bits}
+use Rattle.plane.proofs.Bits.{eq-bits}
 use Rattle.panbuckle.proofs.same_point.Statement.{statement}
 use Rattle.panbuckle.proofs.same_point.Tie as tie
 

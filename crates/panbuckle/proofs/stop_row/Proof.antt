@@ -6,7 +6,7 @@ use lib.ListN.{length}
 use borrow.Author.Needs.{needs}
 use Rattle.plane.proofs.Order.{order, up, dn}
 use Rattle.panbuckle.specs.Inner.{held}
-use Rattle.panbuckle.proofs.Bits.{back}
+use Rattle.plane.proofs.Bits.{back}
 use Rattle.panbuckle.proofs.StopRow.{EvenBelow, even-first, even-on, over-stops, odd-stops}
 use Rattle.panbuckle.proofs.stop_row.Statement.{statement}
 use Rattle.panbuckle.proofs.stop_row.Tie as tie

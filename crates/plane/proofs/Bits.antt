@@ -4,15 +4,16 @@ use native.Mathlib.Omega.{arith}
 use mathlib.Core.Path.{_≡_, refl}
 use mathlib.Core.Bool.{false, true≢false}
 use lib.Dec.{T, eqb}
-use lib.IntN.{ℤ, pos, negsuc, natAbs}
+use lib.IntN.{ℤ, pos, negsuc, natAbs, _+ℤ_}
 use lib.Signed.{mag, ltZ, nonNeg, natAbs-le}
 use mir.Syntax.{w32, w64}
-use mir.Val.{ofZ, toZ, Fits}
+use mir.Val.{ofZ, toZ, Fits, SFits}
 use mir.Facts.{toZ-ofZ, fits-below}
 use borrow.Author.Tests.{eq-eqb, ne-eqb, eqb-true}
 use Rattle.plane.specs.declared.Rect.{Rect}
 use Rattle.plane.specs.Words.{eqZ, flat}
+use Rattle.plane.proofs.Order.{mag-add}
 use Rattle.plane.proofs.Bools.{iff, or-parts}
 
 -- ---- Tests
 
@@ -31,6 +32,20 @@ eq-bits (negsuc a) (negsuc b) p q = eqb-iff (2 ^ 32 - suc a) (2 ^ 32 - suc b) a 
 -- the number of a number's bits
 pub back : (a : ℤ) → mag a < 2 ^ 31 → toZ w32 (ofZ w32 a) ≡ a
 back a p = toZ-ofZ (record { sfits = p })
+
+-- ---- 64 bits
+
+-- a number that fits 32 bits fits 64
+pub widened : (a : ℤ) → mag a < 2 ^ 31 → SFits w64 a
+widened a p = record { sfits = omega arith }
+
+-- so does a sum of two
+pub sum-widened : (a b : ℤ) → mag a < 2 ^ 31 → mag b < 2 ^ 31 → SFits w64 (a +ℤ b)
+sum-widened a b p q = record { sfits = omega (arith, mag-add a b) }
+
+-- the number of a number's 64 bits
+pub back-wide : (a : ℤ) → mag a < 2 ^ 63 → toZ w64 (ofZ w64 a) ≡ a
+back-wide a p = toZ-ofZ (record { sfits = p })
 
 -- ---- Sides
 

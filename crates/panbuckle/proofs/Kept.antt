@@ -80,7 +80,7 @@ module _ {work : List ℤ} {n : ℕ} {r : StepAnswer} {work-after : List ℤ} (d
 
 module _ {a work out : List ℤ} {r : ForwardAnswer} {work-after out-after : List ℤ} (d : ForwardDone a work out r work-after out-after) (done : r .answer ≡ 0) where
   -- 0 is what the definition answers
-  answers-0 : forwardAnswer a (length work) (length out) .answer ≡ 0
+  pub answers-0 : forwardAnswer a (length work) (length out) .answer ≡ 0
   answers-0 = rw (d .answer) at done
 
   -- the answer is that of the rule's list
@@ -97,7 +97,11 @@ module _ {a work out : List ℤ} {r : ForwardAnswer} {work-after out-after : Lis
   pub done-list : listOf r out-after ≡ ruleList (pointsOf a)
   done-list = let rs = ruleList (pointsOf a) in rw (answers-list, writes-list, rects-append rs (drop (length (flatRects rs)) out)) (take-append-seam rs _)
 
-  -- and is otherwise unchanged
+  -- as numbers it is the first ones, four for each rectangle counted
+  pub done-numbers : take (4 * r .count) out-after ≡ flatRects (ruleList (pointsOf a))
+  done-numbers = let rs = ruleList (pointsOf a) in rw (answers-list, writes-list, ← length-flat-rects rs) (take-append-seam (flatRects rs) _)
+
+  -- and the output is otherwise unchanged
   pub done-rest : drop (4 * r .count) out-after ≡ drop (4 * r .count) out
   done-rest = let rs = ruleList (pointsOf a) in rw (answers-list, writes-list, ← length-flat-rects rs) (drop-append-seam (flatRects rs) _)
 

@@ -7,4 +7,5 @@ pub mod StopRow
 pub mod Walk
 pub mod Outcomes
 pub mod Kept
+pub mod BothWays
 pub mod Stepping

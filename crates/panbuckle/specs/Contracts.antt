@@ -1,15 +1,19 @@
 -- What the public functions promise, for every input: the answer, and what each lent array holds afterwards, as
 -- definitions of what was given.
-use Prim.Native.Nat.{ℕ, _*_, _/_}
+use Prim.Native.Nat.{ℕ, _*_, _/_, _≤_}
 use mathlib.Core.Path.{_≡_}
 use mathlib.Core.List.{List, [], _∷_, _++_}
 use lib.ListN.{length, take, drop}
 use lib.IntN.{ℤ}
 use Rattle.plane.specs.declared.Rect.{Rect}
+use Rattle.plane.specs.Words.{pointsOf}
 use Rattle.rule.specs.declared.ForwardAnswer.{ForwardAnswer}
+use Rattle.rule.specs.declared.BackwardAnswer.{BackwardAnswer}
 use Rattle.rule.specs.declared.StepAnswer.{StepAnswer}
 use Rattle.rule.specs.declared.StepAnswer.the-variants.{Rectangle, Refused}
+use Rattle.rule.specs.Rule.{ruleList}
 use Rattle.rule.specs.Answers.{forwardAnswer, forwardWork, forwardOut, stepAnswer, stepWork}
+use Rattle.outline.specs.Contracts.{BackwardDone}
 
 -- forward, of an array, a working array and an output: its answer, and the two lent arrays afterwards
 pub record ForwardDone (a work out : List ℤ) (r : ForwardAnswer) (work-after out-after : List ℤ) : Type 0 where
@@ -37,3 +41,23 @@ pub data Stepped : (work : List ℤ) (n : ℕ) → List Rect → (work-after : L
 pub data Reached (work : List ℤ) (n : ℕ) : (work-now : List ℤ) (m : ℕ) → Type 0 where
   at-start : Reached work n work n
   onward : {between : List ℤ} {m : ℕ} {r : Rect} {j : ℕ} {work-now : List ℤ} → Reached work n between m → StepDone between m (Rectangle r j) work-now → Reached work n work-now j
+
+-- ---- A call of backward, and a call of forward on what it wrote
+
+-- backward of a rectangle list, accepted with at most 4,096 points, and forward of the points that it wrote, with a working array for them and
+-- room for the list, as it stands in the output afterwards
+pub record BackThenForward (a : List ℤ) : Type 0 where
+  pub points : List ℤ
+  pub said : BackwardAnswer
+  pub points-after : List ℤ
+  pub back : BackwardDone a points said points-after
+  pub done : said .answer ≡ 0
+  pub few : said .count ≤ 4096
+  pub work : List ℤ
+  pub out : List ℤ
+  pub answer : ForwardAnswer
+  pub work-after : List ℤ
+  pub out-after : List ℤ
+  pub forth : ForwardDone (take (2 * said .count) points-after) work out answer work-after out-after
+  pub working : 2 * said .count ≤ length work
+  pub room : length (ruleList (pointsOf (take (2 * said .count) points-after))) ≤ length out / 4

@@ -1,6 +1,6 @@
-// Panbuckle: the corner points of right-angled shapes become disjoint rectangles.
-// The public functions are `forward` and `step`, at the end. What they promise is in specs/Contracts.antt; the rule, the
-// refusals and the answers are the definitions of the crate `rule`.
+// Panbuckle: the corner points of right-angled shapes become disjoint rectangles, and back.
+// The public functions are `forward` and `step`, at the end, and `backward`, passed on from the crate `outline`. What they promise is in
+// specs/Contracts.antt of each; the rule, the refusals and the answers are the definitions of the crate `rule`.
 ghost use mathlib.Core.Path.{_≡_};
 ghost use mathlib.Core.Bool.{cond, true, false};
 ghost use mathlib.Core.List.{_++_, []};
@@ -18,11 +18,15 @@ ghost use Rattle.rule.specs.Table.{accepted, pointAt, pointChecks, placeGiven, 
 ghost use Rattle.rule.specs.Answers.{workOf, forwardSays, written};
 ghost use Rattle.panbuckle.specs.Inner.{held, put, putRect, Holds, cross, overWidth, sought, Begun, beside, IsHighest, Toggled, OddBeside, Between, most, screenOf, onLine, offends, pointCheck, inputChecks};
 ghost use Rattle.panbuckle.specs.Contracts.{ForwardDone, StepDone};
+pub use outline::MOST_RECTS;
+pub use outline::backward;
 pub use plane::Point;
 pub use plane::Rect;
+pub use rule::BackwardAnswer;
 pub use rule::COLUMN;
 pub use rule::DONE;
 pub use rule::DRAINED;
+pub use rule::FLAT;
 pub use rule::ForwardAnswer;
 pub use rule::LENGTH;
 pub use rule::MANY;

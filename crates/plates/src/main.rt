@@ -1,5 +1,6 @@
-// Runs the compiled library on the plates of document 01, cases A to J, and says of each whether the answer, the list and both
-// lent arrays are what document 01 gives. The arrays are lent full of a number that no plate has.
+// Runs the compiled library on the plates of document 01, cases A to L, and on some more that go back, and says of each whether the answer,
+// the list and the lent arrays are what document 01 gives. The arrays are lent full of a number that no plate has.
+use panbuckle::BackwardAnswer;
 use panbuckle::ForwardAnswer;
 use panbuckle::Rect;
 use panbuckle::StepAnswer;
@@ -92,6 +93,29 @@ fn steps(work: &mut [i32], count: usize, left: usize, numbers: &[i32]) -> bool {
             answer: _,
             place: _,
         } => false,
+    }
+}
+
+// Whether backward gives this answer and these points, and leaves the rest of the array.
+fn gives_back(rects: &[i32], points: &mut [i32], answer: BackwardAnswer, list: &[i32]) -> bool {
+    let r = panbuckle::backward(rects, points);
+    ((r.answer == answer.answer) & ((r.place == answer.place) & (r.count == answer.count)))
+        & holds(points, list)
+}
+
+fn went_back(count: usize) -> BackwardAnswer {
+    BackwardAnswer {
+        answer: 0,
+        place: 0,
+        count: count,
+    }
+}
+
+fn not_back(answer: u32, place: u64) -> BackwardAnswer {
+    BackwardAnswer {
+        answer: answer,
+        place: place,
+        count: 0,
     }
 }
 
@@ -240,6 +264,117 @@ fn step_of_none() -> bool {
     drained & is_filled(&work, 0, 3, UNTOUCHED)
 }
 
+// Case K: B's list backward.
+fn case_k() -> bool {
+    let mut points: [i32; 21] = [UNTOUCHED; 21];
+    let rects: [i32; 12] = [0, 0, 4, 3, 4, 1, 4, 2, 1, 3, 3, 2];
+    let list: [i32; 20] = [0, 0, 4, 0, 4, 1, 8, 1, 0, 3, 1, 3, 4, 3, 8, 3, 1, 5, 4, 5];
+    gives_back(&rects, &mut points, went_back(10), &list)
+}
+
+// Case K with room for nine points: ROOM, place 10.
+fn case_k_short() -> bool {
+    let mut points: [i32; 19] = [UNTOUCHED; 19];
+    let rects: [i32; 12] = [0, 0, 4, 3, 4, 1, 4, 2, 1, 3, 3, 2];
+    let list: [i32; 0] = [0; 0];
+    gives_back(&rects, &mut points, not_back(8, 10), &list)
+}
+
+// Case L: a unit square twice.
+fn case_l() -> bool {
+    let mut points: [i32; 3] = [UNTOUCHED; 3];
+    let rects: [i32; 8] = [0, 0, 1, 1, 0, 0, 1, 1];
+    let list: [i32; 0] = [0; 0];
+    gives_back(&rects, &mut points, went_back(0), &list)
+}
+
+// A list that is cut off: LENGTH.
+fn back_cut_off() -> bool {
+    let mut points: [i32; 8] = [UNTOUCHED; 8];
+    let rects: [i32; 7] = [0, 0, 1, 1, 0, 0, 1];
+    let list: [i32; 0] = [0; 0];
+    gives_back(&rects, &mut points, not_back(1, 0), &list)
+}
+
+// A far side past what 32 bits hold, and after it a flat rectangle: FLAT comes first, place 1.
+fn back_flat() -> bool {
+    let mut points: [i32; 16] = [UNTOUCHED; 16];
+    let rects: [i32; 8] = [1000000000, 0, 2147483647, 1, 0, 0, 1, 0];
+    let list: [i32; 0] = [0; 0];
+    gives_back(&rects, &mut points, not_back(9, 1), &list)
+}
+
+// A far side past what 32 bits hold: RANGE, place 1.
+fn back_far() -> bool {
+    let mut points: [i32; 16] = [UNTOUCHED; 16];
+    let rects: [i32; 8] = [0, 0, 1, 1, 1000000000, 0, 2147483647, 1];
+    let list: [i32; 0] = [0; 0];
+    gives_back(&rects, &mut points, not_back(4, 1), &list)
+}
+
+// The widest square there and back.
+fn back_widest() -> bool {
+    let mut points: [i32; 8] = [UNTOUCHED; 8];
+    let rects: [i32; 4] = [-1000000000, -1000000000, 2000000000, 2000000000];
+    let list: [i32; 8] = [
+        -1000000000,
+        -1000000000,
+        1000000000,
+        -1000000000,
+        -1000000000,
+        1000000000,
+        1000000000,
+        1000000000,
+    ];
+    gives_back(&rects, &mut points, went_back(4), &list)
+}
+
+// Unit squares along a row, the rightmost first.
+fn put_squares(rects: &mut [i32]) {
+    if rects.len() != 1600 {
+        return;
+    }
+    for i in 0..400 {
+        let x = (2 * (399 - i)) as i32;
+        rects[4 * i] = x;
+        rects[4 * i + 1] = 0;
+        rects[4 * i + 2] = 1;
+        rects[4 * i + 3] = 1;
+    }
+}
+
+// Whether the points from a place on are the 800 of a row, from its left.
+fn is_row(points: &[i32; 3201], from: usize, y: i32) -> bool {
+    if 800 < from {
+        return false;
+    }
+    for i in 0..800 {
+        let at = 2 * (from + i);
+        if (points[at] != i as i32) | (points[at + 1] != y) {
+            return false;
+        }
+    }
+    true
+}
+
+// More points than the library lists in one pass.
+fn back_long() -> bool {
+    let mut rects: [i32; 1600] = [0; 1600];
+    put_squares(&mut rects);
+    let mut points: [i32; 3201] = [UNTOUCHED; 3201];
+    let r = panbuckle::backward(&rects, &mut points);
+    ((r.answer == 0) & (r.count == 1600))
+        & ((is_row(&points, 0, 0) & is_row(&points, 800, 1)) & (points[3200] == UNTOUCHED))
+}
+
+// One square 385 times, more corners than the library holds at once.
+fn back_many() -> bool {
+    let mut points: [i32; 9] = [UNTOUCHED; 9];
+    let rects: [i32; 1540] = [1; 1540];
+    let list: [i32; 8] = [1, 1, 2, 1, 1, 2, 2, 2];
+    gives_back(&rects, &mut points, went_back(4), &list)
+}
+
 fn say(ok: bool, line: &[u8]) {
     if !ok {
         io::write_all(1, b"WRONG: ");
@@ -260,7 +395,16 @@ fn main() {
     say(case_i(), b"I\n");
     say(case_j(), b"J\n");
     say(case_j_further(), b"J, one unit further\n");
+    say(case_k(), b"K\n");
+    say(case_k_short(), b"K, room for nine\n");
+    say(case_l(), b"L\n");
     say(step_a(), b"A, one step\n");
     say(step_e(), b"E, one step\n");
     say(step_of_none(), b"a step of no points\n");
+    say(back_cut_off(), b"back from a list cut off\n");
+    say(back_flat(), b"back from a flat rectangle\n");
+    say(back_far(), b"back from a far side out of range\n");
+    say(back_widest(), b"back from the widest square\n");
+    say(back_long(), b"back from 400 squares\n");
+    say(back_many(), b"back from one square 385 times\n");
 }

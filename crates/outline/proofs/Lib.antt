@@ -1,0 +1,8 @@
+pub mod Checks
+pub mod Keys
+pub mod Climbs
+pub mod Cancelling
+pub mod Gathering
+pub mod Batches
+pub mod Outcomes
+pub mod Kept

@@ -1,0 +1,57 @@
+-- `outline::backward` meets its contract: each check refuses, or passes to the next.
+use Prim.Native.Nat.{ℕ, _/_, _%_}
+use native.Mathlib.Omega.{arith}
+use mathlib.Core.Path.{_≡_}
+use mathlib.Core.Bool.{true, false}
+use lib.ListN.{length}
+use lib.Dec.{eqb, ltb}
+use borrow.Author.Needs.{needs}
+use borrow.Author.Tests.{lt-ltb, le-ltb, eq-eqb, ne-eqb}
+use Rattle.rule.specs.Table.{backwardChecks, verdict}
+use Rattle.rule.proofs.Verdicts.{accepted-clear}
+use Rattle.rule.proofs.Refusals.{backward-accepted}
+use Rattle.outline.proofs.Checks.{lastTwo, backward-verdict, refused-done}
+use Rattle.outline.proofs.backward.Statement.{statement}
+use Rattle.outline.proofs.backward.Tie as tie
+
+returns : tie.Need-returns
+returns c =
+    let a = c .before .before .args .rects .now in
+    refused-done (c .no-points .ensures) (rw (backward-verdict, ne-eqb (length a % 4) 0 (c .before .if1 .taken)))
+
+-- past LENGTH
+past-one : (c : tie.Else1) → eqb (length (c .before .args .rects .now) % 4) 0 ≡ true
+past-one c = eq-eqb (length (c .before .args .rects .now) % 4) 0 (c .if1 .left)
+
+returns-2 : tie.Need-returns-2
+returns-2 c =
+    let a = c .before .before .before .args .rects .now in
+    refused-done (c .no-points2 .ensures) (rw (backward-verdict, past-one (c .before .before), lt-ltb 16384 (length a / 4) (c .before .if2 .taken)))
+
+-- past MANY
+past-two : (c : tie.Else2) → ltb 16384 (length (c .before .before .args .rects .now) / 4) ≡ false
+past-two c = le-ltb 16384 (length (c .before .before .args .rects .now) / 4) (c .if2 .left)
+
+returns-3 : tie.Need-returns-3
+returns-3 c =
+    let f = c .before .before in
+    refused-done (c .no-points3 .ensures) (rw (backward-verdict, past-one (f .before .before), past-two (f .before), ← f .first-bad .ensures, lt-ltb _ _ (c .before .if3 .taken)))
+
+-- past FLAT the last two checks say all
+past-three : (c : tie.Else3) (out : ℕ) → let a = c .before .before .before .before .args .rects .now in verdict (backwardChecks a out) ≡ lastTwo a out
+past-three c out =
+    let f = c .before in
+    rw (backward-verdict, past-one (f .before .before), past-two (f .before), ← f .first-bad .ensures, le-ltb _ _ (c .if3 .left))
+
+returns-4 : tie.Need-returns-4
+returns-4 c =
+    let g = c .before .before in
+    refused-done (c .no-points4 .ensures) (rw (past-three (g .before), ← g .first-bad2 .ensures, lt-ltb _ _ (c .before .if4 .taken)))
+
+outlined-requires : tie.Need-outlined-requires
+outlined-requires c κs =
+    let g = c .before .before in
+    backward-accepted _ _ .0 (rw (past-three (g .before), ← g .first-bad2 .ensures, le-ltb _ _ (c .before .if4 .left)) (accepted-clear _ .1 (omega arith, tt)))
+
+pub backward-spec : {M : Type 1} → statement M
+backward-spec = tie.close (tie.spec (λ c κs. search needs) returns (λ c κs. search needs) returns-2 (λ c κs. search needs) (λ c κs. search needs) returns-3 (λ c κs. search needs) (λ c κs. search needs) returns-4 outlined-requires (λ c. search needs) (λ c. search needs))

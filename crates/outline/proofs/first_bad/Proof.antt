@@ -1,0 +1,41 @@
+-- `outline::first_bad` meets its contract. The invariant: no rectangle before place i offends.
+use Prim.Native.Nat.{_≤_, _-_}
+use native.Mathlib.Omega.{arith}
+use borrow.Author.Needs.{needs}
+use Rattle.plane.specs.Words.{rectsOf}
+use Rattle.plane.proofs.Arrays.{length-rects}
+use Rattle.rule.specs.Table.{rectAt, placeGiven}
+use Rattle.rule.proofs.Verdicts.{NoneBelow, none-below-next}
+use Rattle.rule.proofs.Search.{found, none-found}
+use Rattle.outline.specs.Inner.{offends}
+use Rattle.outline.proofs.first_bad.Statement.{statement}
+use Rattle.outline.proofs.first_bad.Tie as tie
+
+abbrev Inv-loop : tie.InvT-loop
+Inv-loop rects number n i₀ i = (i ≤ n) × NoneBelow i (λ j. offends number (rectAt (rectsOf rects) j))
+
+abbrev μ-loop : tie.MeasureT-loop
+μ-loop rects number n i₀ i = n - i
+
+loop-holds : tie.Need-loop-holds Inv-loop μ-loop
+loop-holds c = (search needs, λ j h. absurd (omega arith))
+
+returns : tie.Need-returns Inv-loop μ-loop
+unfolding placeGiven
+returns c =
+    let l = c .before .before .before .before in
+    found (length-rects (l .before .args .rects .now)) (l .loop .inv .1) (search needs) (cc)
+
+loop-again : tie.Need-loop-again Inv-loop μ-loop
+loop-again c =
+    let l = c .before .before .before .before in
+    (search needs, none-below-next (l .loop .inv .1) (cc))
+
+returns-2 : tie.Need-returns-2 Inv-loop μ-loop
+unfolding placeGiven
+returns-2 c =
+    let l = c .before in
+    none-found (length-rects (l .before .args .rects .now)) (l .loop .inv .1) (search needs) (search needs)
+
+pub first-bad-spec : {M : Type 1} → statement M
+first-bad-spec = tie.close (tie.spec Inv-loop μ-loop loop-holds (λ c κs. search needs) (λ c κs. search needs) returns (λ c. search needs) (λ c. search needs) loop-again returns-2)

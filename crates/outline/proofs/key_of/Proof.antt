@@ -1,0 +1,44 @@
+-- `outline::key_of` meets its contract.
+use native.Mathlib.Omega.{arith}
+use mathlib.Core.Path.{_≡_}
+use mathlib.Core.Bool.{true}
+use Rattle.plane.specs.Words.{inRange, pointInRange}
+use Rattle.plane.proofs.Bools.{and-parts}
+use Rattle.plane.proofs.Bits.{back}
+use Rattle.outline.specs.Inner.{fromLow, keyOf}
+use Rattle.outline.proofs.Keys.{point-low}
+use Rattle.outline.proofs.key_of.Statement.{statement}
+use Rattle.outline.proofs.key_of.Tie as tie
+
+-- both numbers of the point are in range
+ranges : (s : tie.Start) → let p = s .args .p in (inRange (p .x) ≡ true) × (inRange (p .y) ≡ true)
+unfolding pointInRange
+ranges s = let p = s .args .p in and-parts (inRange (p .x)) (inRange (p .y)) (s .pre)
+
+-- the rows below
+rows : (c : tie.After-from-low) → c .from-low .result ≡ fromLow (c .before .before .args .p .y)
+rows c = rw (back (c .before .before .args .p .y) (omega arith)) at (c .from-low .ensures)
+
+-- the columns to the left
+columns : (c : tie.After-from-low2) → c .from-low2 .result ≡ fromLow (c .before .before .before .before .args .p .x)
+columns c = rw (back (c .before .before .before .before .args .p .x) (omega arith)) at (c .from-low2 .ensures)
+
+mul-result : tie.Need-mul-result
+mul-result c = let s = c .before .before in let l = point-low (s .args .p) (s .pre) in rw (rows c) (omega arith)
+
+add-result : tie.Need-add-result
+add-result c = let s = c .before .before .before .before in let l = point-low (s .args .p) (s .pre) in rw (rows (c .before .before), columns c) (omega arith)
+
+returns : tie.Need-returns
+unfolding keyOf
+returns c = rw (rows (c .before .before), columns c)
+
+pub key-of-spec : {M : Type 1} → statement M
+key-of-spec =
+    tie.close
+    (tie.spec
+    (λ c κs. rw (back (c .before .args .p .y) (omega arith)) (ranges (c .before) .1))
+    mul-result
+    (λ c κs. rw (back (c .before .before .before .args .p .x) (omega arith)) (ranges (c .before .before .before) .0))
+    add-result
+    returns)

@@ -1,0 +1,12 @@
+-- What backward promises, for every input: the answer, and what the lent array holds afterwards, as definitions of what was given.
+use mathlib.Core.Path.{_≡_}
+use mathlib.Core.List.{List}
+use lib.ListN.{length}
+use lib.IntN.{ℤ}
+use Rattle.rule.specs.declared.BackwardAnswer.{BackwardAnswer}
+use Rattle.rule.specs.Answers.{backwardAnswer, backwardOut}
+
+-- backward, of an array and an output: its answer, and the output afterwards
+pub record BackwardDone (a out : List ℤ) (r : BackwardAnswer) (out-after : List ℤ) : Type 0 where
+  pub answer : r ≡ backwardAnswer a (length out)
+  pub output : out-after ≡ backwardOut a out

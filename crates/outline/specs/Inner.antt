@@ -1,0 +1,140 @@
+-- What the private functions speak of. No caller needs these definitions: the promise is in Contracts.
+use Prim.Native.Nat.{ℕ, _+_, _*_, _/_, _%_, _<_, _≤_}
+use mathlib.Core.Path.{_≡_}
+use mathlib.Core.Bool.{Bool, true, false, not, cond, _&&_, _||_, xor}
+use mathlib.Core.List.{List, [], _∷_, _++_, List·Memᴰ as In}
+use lib.ListN.{length, take}
+use lib.IntN.{ℤ, pos, natAbs, _+ℤ_, _-ℤ_}
+use lib.Dec.{eqb, leb, ltb}
+use Rattle.plane.specs.declared.Point.{Point}
+use Rattle.plane.specs.declared.Rect.{Rect}
+use Rattle.plane.specs.Lists.{odd, only}
+use Rattle.plane.specs.Words.{highEnd, inRange, rectInRange, flat, right, top}
+use Rattle.rule.specs.Table.{Check, each, rectAt}
+use Rattle.outline.specs.declared.Batch.{Batch}
+
+-- ---- Checks
+
+-- a coordinate and the far side are in range
+abbrev pub spansRange : (near by : ℤ) → Bool
+spansRange near by = inRange near && inRange (near +ℤ by)
+
+-- the rectangle offends against the row of the table with this number, of 9 and 4
+abbrev pub offends : (number : ℕ) → Rect → Bool
+offends number r = cond (eqb number 9) (flat r) (not (rectInRange r))
+
+-- the check with this number
+abbrev pub rectCheck : (number : ℕ) → List Rect → Check
+rectCheck number rs = each number (length rs) (λ i. offends number (rectAt rs i))
+
+-- ---- Keys
+
+-- how far a number is above the low end of the range
+unfoldable pub fromLow : ℤ → ℕ
+fromLow z = natAbs (z +ℤ highEnd)
+
+-- from a key to the one of the next row
+abbrev pub rowStep : ℕ
+rowStep = 4_294_967_296
+
+-- above every key
+abbrev pub endOfKeys : ℕ
+endOfKeys = 2_000_000_001 * rowStep
+
+-- a point's key: a row's step for each row, and 1 for each column
+unfoldable pub keyOf : Point → ℕ
+keyOf p = fromLow (p .y) * rowStep + fromLow (p .x)
+
+-- the number that is so far above the low end
+abbrev pub above : ℕ → ℤ
+above n = pos n -ℤ highEnd
+
+-- the point of a key
+unfoldable pub pointOf : ℕ → Point
+pointOf k = record { x = above (k % rowStep); y = above (k / rowStep) }
+
+-- a number that is the key of a point in range
+unfoldable pub isKey : ℕ → Bool
+isKey k = leb (k % rowStep) 2_000_000_000 && leb (k / rowStep) 2_000_000_000
+
+-- numbers that are keys of points in range
+pub record AreKeys (ks : List ℕ) : Type 0 where
+  pub each-is : (k : ℕ) → In k ks → isKey k ≡ true
+
+-- the keys of points
+unfoldable pub keysOf : List Point → List ℕ
+keysOf [] = []
+keysOf (p ∷ ps) = keyOf p ∷ keysOf ps
+
+-- the points of keys
+unfoldable pub pointsAt : List ℕ → List Point
+pointsAt [] = []
+pointsAt (k ∷ ks) = pointOf k ∷ pointsAt ks
+
+-- a rectangle's corner, at its right or its left, at its top or its bottom
+abbrev pub cornerAt : Rect → (at-right at-top : Bool) → Point
+cornerAt r at-right at-top = record { x = cond at-right (right r) (r .x); y = cond at-top (top r) (r .y) }
+
+-- ---- The keys that stand an odd number of times
+
+-- a list's last number is k
+unfoldable pub endsWith : List ℕ → (k : ℕ) → Bool
+endsWith [] k = false
+endsWith (j ∷ []) k = eqb j k
+endsWith (j ∷ i ∷ rest) k = endsWith (i ∷ rest) k
+
+-- numbers after k stand in strictly rising order
+unfoldable pub climbsAfter : ℕ → List ℕ → Bool
+climbsAfter k [] = true
+climbsAfter k (j ∷ rest) = ltb k j && climbsAfter j rest
+
+-- numbers stand in strictly rising order
+unfoldable pub climbs : List ℕ → Bool
+climbs [] = true
+climbs (k ∷ rest) = climbsAfter k rest
+
+-- the numbers that stand an odd number of times, once each, in order: every test passes as odd a number of them
+pub record OddOnes (before after : List ℕ) : Type 0 where
+  pub climbing : climbs after ≡ true
+  pub parity : (f : ℕ → Bool) → odd f after ≡ odd f before
+
+-- ---- A batch
+
+-- as many keys as an array holds
+abbrev pub mostKeys : ℕ
+mostKeys = 1536
+
+-- a key is from a start to below an end
+unfoldable pub within : (start end : ℕ) → ℕ → Bool
+within start end k = leb start k && ltb k end
+
+-- no key from left to right is
+abbrev pub misses : (start end left right : ℕ) → Bool
+misses start end left right = ltb right start || leb end left
+
+-- a batch in the making, of all keys, with some yet to come: what is kept has, for every test, the parity of the keys that came, as far as
+-- they are from the start to below the batch's end, and this end is above the start and not above the one asked for
+pub record Gathers (start asked : ℕ) (b : Batch) (all to-come kept : List ℕ) : Type 0 where
+  pub beyond : start < b .end
+  pub not-beyond : b .end ≤ asked
+  pub parity : (f : ℕ → Bool) → xor (odd f kept) (odd (λ k. within start (b .end) k && f k) to-come) ≡ odd (λ k. within start (b .end) k && f k) all
+
+-- a batch takes keys: where it is in the making with these yet to come, it is afterwards without them; and the array is not full
+pub record Takes (start : ℕ) (ks : List ℕ) (b : Batch) (before : List ℕ) (r : Batch) (after : List ℕ) : Type 0 where
+  pub few : r .count < mostKeys
+  pub takes : (asked : ℕ) (all rest : List ℕ) → Gathers start asked b all (ks ++ rest) (take (b .count) before) → Gathers start asked r all rest (take (r .count) after)
+
+-- a full array is made room in: from whatever start, its batch takes no key, and the array is not full
+pub record RoomMade (end : ℕ) (before : List ℕ) (r : Batch) (after : List ℕ) : Type 0 where
+  pub from : (start : ℕ) → Takes start [] (record { count = mostKeys; end = end }) before r after
+
+-- the points with keys from a start to below an end
+abbrev pub batchOf : (start end : ℕ) → List Point → List Point
+batchOf start end ps = only (λ p. within start end (keyOf p)) ps
+
+-- a batch of a list's points from a start on: all of them to below its end, which is above the start and not above the one asked for
+pub record IsBatch (ps : List Point) (start asked : ℕ) (b : Batch) (ks : List ℕ) : Type 0 where
+  pub few : b .count ≤ mostKeys
+  pub beyond : start < b .end
+  pub not-beyond : b .end ≤ asked
+  pub keys : ks ≡ keysOf (batchOf start (b .end) ps)

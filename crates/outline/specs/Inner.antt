@@ -112,8 +112,7 @@ within start end k = leb start k && ltb k end
 abbrev pub misses : (start end left right : ℕ) → Bool
 misses start end left right = ltb right start || leb end left
 
--- a batch in the making, of all keys, with some yet to come: what is kept has, for every test, the parity of the keys that came, as far as
--- they are from the start to below the batch's end, and this end is above the start and not above the one asked for
+-- a batch in the making: what is kept has, for every test, the parity of those of all keys that are within and no longer to come
 pub record Gathers (start asked : ℕ) (b : Batch) (all to-come kept : List ℕ) : Type 0 where
   pub beyond : start < b .end
   pub not-beyond : b .end ≤ asked

@@ -44,8 +44,7 @@ pub data Reached (work : List ℤ) (n : ℕ) : (work-now : List ℤ) (m : ℕ) �
 
 -- ---- A call of backward, and a call of forward on what it wrote
 
--- backward of a rectangle list, accepted with at most 4,096 points, and forward of the points that it wrote, with a working array for them and
--- room for the list, as it stands in the output afterwards
+-- backward of a rectangle list, accepted with at most 4,096 points, and forward of the numbers that it wrote, with work and room for them
 pub record BackThenForward (a : List ℤ) : Type 0 where
   pub points : List ℤ
   pub said : BackwardAnswer

@@ -1,6 +1,6 @@
 -- `outline::key_of` meets its contract.
 use native.Mathlib.Omega.{arith}
-use mathlib.Core.Path.{_≡_}
+use mathlib.Core.Path.{_≡_, ap, _∙_}
 use mathlib.Core.Bool.{true}
 use Rattle.plane.specs.Words.{inRange, pointInRange}
 use Rattle.plane.proofs.Bools.{and-parts}
@@ -17,11 +17,11 @@ ranges s = let p = s .args .p in and-parts (inRange (p .x)) (inRange (p .y)) (s 
 
 -- the rows below
 rows : (c : tie.After-from-low) → c .from-low .result ≡ fromLow (c .before .before .args .p .y)
-rows c = rw (back (c .before .before .args .p .y) (omega arith)) at (c .from-low .ensures)
+rows c = c .from-low .ensures ∙ ap fromLow (back (c .before .before .args .p .y) (omega arith))
 
 -- the columns to the left
 columns : (c : tie.After-from-low2) → c .from-low2 .result ≡ fromLow (c .before .before .before .before .args .p .x)
-columns c = rw (back (c .before .before .before .before .args .p .x) (omega arith)) at (c .from-low2 .ensures)
+columns c = c .from-low2 .ensures ∙ ap fromLow (back (c .before .before .before .before .args .p .x) (omega arith))
 
 mul-result : tie.Need-mul-result
 mul-result c = let s = c .before .before in let l = point-low (s .args .p) (s .pre) in rw (rows c) (omega arith)

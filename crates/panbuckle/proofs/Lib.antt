@@ -1,5 +1,5 @@
 pub mod Scan
-pub mod Screens
+pub mod BeforeRoom
 pub mod Copied
 pub mod Toggling
 pub mod Taking

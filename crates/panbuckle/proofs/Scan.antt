@@ -1,14 +1,14 @@
 -- A loop that goes through the points of an array: what is left of them at each place.
-use Prim.Native.Nat.{ℕ, _<_, _≤_, _+_, _*_, _/_}
+use Prim.Native.Nat.{ℕ, _<_, _≤_, _+_, _*_}
 use native.Mathlib.Numerals.{add-one}
 use native.Mathlib.Omega.{arith}
 use mathlib.Core.Path.{_≡_}
 use mathlib.Core.List.{List, [], _∷_, _++_}
 use lib.ListN.{length, take, drop, drop-of-length-le}
-use lib.Seq.{take-suc, drop-cons, getD-take, length-take-le, take-all, take-take}
+use lib.Seq.{drop-cons, getD-take, length-take-le, take-take}
 use lib.IntN.{ℤ}
 use Rattle.plane.specs.Words.{pointsOf, origin}
-use Rattle.plane.proofs.Arrays.{length-points}
+use Rattle.plane.proofs.Arrays.{length-points, points-next}
 use Rattle.rule.specs.Table.{pointAt}
 use Rattle.panbuckle.specs.Inner.{held}
 
@@ -34,15 +34,8 @@ module _ (n : ℕ) (a : List ℤ) (fits : 2 * n ≤ length a) where
 
   -- the points before the place after i
   pub held-next : (i : ℕ) → i < n → held (i + 1) a ≡ held i a ++ (pointAt (pointsOf a) i ∷ [])
-  held-next i l =
-      let e = length-points a in
-      let m : i < length (pointsOf a) = omega arith in
-      rw add-one (take-suc (pointsOf a) i origin m)
+  held-next i l = points-next a i (omega arith)
 
 -- the points before place i
 pub fewer : (n : ℕ) (a : List ℤ) (i : ℕ) → i ≤ n → take i (held n a) ≡ held i a
 fewer n a i h = take-take i n (pointsOf a) h
-
--- the points in all places are the array's
-pub held-all : (a : List ℤ) → held (length a / 2) a ≡ pointsOf a
-held-all a = take-all (length a / 2) (pointsOf a) (let h = length-points a in omega arith)

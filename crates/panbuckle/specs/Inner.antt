@@ -1,22 +1,20 @@
 -- What the private functions speak of. No caller needs these definitions: the promises are in Contracts.
 use Prim.Native.Nat.{ℕ, _+_, _*_, _/_, _≤_}
 use mathlib.Core.Path.{_≡_}
-use mathlib.Core.Bool.{Bool, true, false, not, cond, _&&_}
+use mathlib.Core.Bool.{Bool, true, false, cond, _&&_}
 use mathlib.Core.List.{List, _∷_, List·Memᴰ as In}
 use lib.ListN.{length, take, set}
 use lib.IntN.{ℤ}
 use lib.Signed.{leZ, ltZ}
-use lib.Dec.{eqb, ltb}
+use lib.Dec.{ltb}
 use Rattle.plane.specs.declared.Point.{Point}
 use Rattle.plane.specs.declared.Rect.{Rect}
-use Rattle.plane.specs.Lists.{any, count, odd}
-use Rattle.plane.specs.Words.{same, onRow, inColumn, pointInRange, pointsOf}
+use Rattle.plane.specs.Lists.{count, odd}
+use Rattle.plane.specs.Words.{same, pointsOf}
 use Rattle.rule.specs.Rule.{pickK, pickL, rightOf, toggle}
-use Rattle.rule.specs.Table.{Check, each, Verdict, accepted, refused, Accepted, LENGTH, MANY, WORK, pointAt, pointChecks, StepAccepted}
+use Rattle.rule.specs.Table.{Check, Accepted, LENGTH, MANY, WORK, pointChecks, StepAccepted}
 use Rattle.panbuckle.specs.declared.Seek.{Seek}
 use Rattle.panbuckle.specs.declared.Seek.the-variants.{Any, RightOf, Over}
-use Rattle.panbuckle.specs.declared.Screen.{Screen}
-use Rattle.panbuckle.specs.declared.Screen.the-variants.{Clear, Refused}
 
 -- ---- Arrays
 
@@ -91,26 +89,6 @@ pub record Between (low m end : Point) : Type 0 where
   pub not-above : leZ (end .y) (m .y) ≡ true
 
 -- ---- Checks
-
--- what checks in order say: nothing is refused, or the first refusal
-abbrev pub screenOf : Verdict → Screen
-screenOf accepted = Clear
-screenOf (refused k p) = Refused k p
-
--- q is in p's column, or else on p's row
-abbrev pub onLine : (column : Bool) (p q : Point) → Bool
-onLine column p q = cond column (inColumn (p .x) q) (onRow (p .y) q)
-
--- the point at place i offends against the row of the table with this number, of 4, 5, 6 and 7
-abbrev pub offends : (number : ℕ) → List Point → ℕ → Bool
-offends number ps i =
-    cond (eqb number 4) (not (pointInRange (pointAt ps i)))
-    (cond (eqb number 5) (any (same (pointAt ps i)) (take i ps))
-    (cond (eqb number 6) (odd (onRow (pointAt ps i .y)) ps) (odd (inColumn (pointAt ps i .x)) ps)))
-
--- the check with this number
-abbrev pub pointCheck : (number : ℕ) → List Point → Check
-pointCheck number ps = each number (length ps) (offends number ps)
 
 -- forward's checks before the room is known: 1, 2, 3, 4, 5, 6, 7
 unfoldable pub inputChecks : (a : List ℤ) (work : ℕ) → List Check

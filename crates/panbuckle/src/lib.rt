@@ -11,13 +11,15 @@ ghost use lib.IntN.{_-ℤ_};
 ghost use lib.Signed.{ltZ};
 ghost use lib.ListN.{length, take, drop};
 ghost use Prim.Native.Nat.{_+_, _*_, _/_, _<_, _≤_};
-ghost use Rattle.plane.specs.Lists.{odd};
-ghost use Rattle.plane.specs.Words.{origin, same, before, pointInRange, pointsOf, flat, areaOf, edgeOf, flatRects};
+ghost use Rattle.plane.specs.Words.{origin, same, before, pointsOf, flat, areaOf, edgeOf, flatRects};
 ghost use Rattle.rule.specs.Rule.{firstOf, rightOf, placeOf, pickM, rectOf, toggle, toggleFour, ruleList};
-ghost use Rattle.rule.specs.Table.{accepted, pointAt, pointChecks, placeGiven, verdict, stepChecks, ForwardAccepted};
+ghost use Rattle.rule.specs.Table.{accepted, pointAt, verdict, stepChecks, ForwardAccepted};
 ghost use Rattle.rule.specs.Answers.{workOf, forwardSays, written};
-ghost use Rattle.panbuckle.specs.Inner.{held, put, putRect, Holds, cross, overWidth, sought, Begun, beside, IsHighest, Toggled, OddBeside, Between, most, screenOf, onLine, offends, pointCheck, inputChecks};
+ghost use Rattle.checks.specs.Screens.{screenOf};
+ghost use Rattle.panbuckle.specs.Inner.{held, put, putRect, Holds, cross, overWidth, sought, Begun, beside, IsHighest, Toggled, OddBeside, Between, most, inputChecks};
 ghost use Rattle.panbuckle.specs.Contracts.{ForwardDone, StepDone};
+use checks::Screen;
+use checks::check_points;
 pub use outline::MOST_RECTS;
 pub use outline::backward;
 pub use plane::Point;
@@ -346,87 +348,6 @@ fn take_rectangle(work: &mut [i32], n: usize) -> StepAnswer
 
 // ---- Checks
 
-// What checks in order say: nothing is refused, or the first refusal.
-enum Screen {
-    Clear,
-    Refused { answer: u32, place: u64 },
-}
-
-fn is_in_range(p: Point) -> bool
-    ensures { λ r. ⌜ r ≡ pointInRange p ⌝ }
-{
-    ((-1_000_000_000 <= p.x) & (p.x <= 1_000_000_000))
-        & ((-1_000_000_000 <= p.y) & (p.y <= 1_000_000_000))
-}
-
-fn is_on_line(column: bool, p: Point, q: Point) -> bool
-    ensures { λ r. ⌜ r ≡ onLine column p q ⌝ }
-{
-    if column { q.x == p.x } else { q.y == p.y }
-}
-
-// Whether p's column, or else p's row, has an odd count.
-fn is_odd_line(a: &[i32], n: usize, column: bool, p: Point) -> bool
-    requires { ⌜ 2 * n ≤ length (now a) ⌝ }
-    ensures { λ r. ⌜ r ≡ odd (onLine column p) (held n (now (a .entry))) ⌝ }
-{
-    let mut odd = false;
-    let mut i = 0;
-    while i < n {
-        odd = odd ^ is_on_line(column, p, point_at(a, i));
-        i += 1;
-    }
-    odd
-}
-
-// Whether the point at place i offends against the check with this number: RANGE, REPEATED, ROW or COLUMN.
-fn is_bad(a: &[i32], n: usize, number: u32, i: usize) -> bool
-    requires { ⌜ (2 * n ≤ length (now a)) × (i < n) ⌝ }
-    ensures { λ r. ⌜ r ≡ offends number (held n (now (a .entry))) i ⌝ }
-{
-    let p = point_at(a, i);
-    match number {
-        RANGE => !is_in_range(p),
-        REPEATED => place_of(a, i, p) < i,
-        ROW => is_odd_line(a, n, false, p),
-        _ => is_odd_line(a, n, true, p),
-    }
-}
-
-// The first place that offends, and n where none does.
-fn first_bad(a: &[i32], n: usize, number: u32) -> usize
-    requires { ⌜ 2 * n ≤ length (now a) ⌝ }
-    ensures { λ r. ⌜ r ≡ Option·getD (placeGiven (pointCheck number (held n (now (a .entry))))) n ⌝ }
-{
-    let mut i = 0;
-    while i < n {
-        if is_bad(a, n, number, i) {
-            return i;
-        }
-        i += 1;
-    }
-    i
-}
-
-// Each check runs over all the points before the next one starts.
-fn check_points(a: &[i32], n: usize) -> Screen
-    requires { ⌜ 2 * n ≤ length (now a) ⌝ }
-    ensures { λ r. ⌜ r ≡ screenOf (verdict (pointChecks (held n (now (a .entry))))) ⌝ }
-{
-    let mut number = RANGE;
-    while number <= COLUMN {
-        let i = first_bad(a, n, number);
-        if i < n {
-            return Screen::Refused {
-                answer: number,
-                place: i as u64,
-            };
-        }
-        number += 1;
-    }
-    Screen::Clear
-}
-
 // A refusal of the whole, at place 0.
 fn refused(number: u32) -> Screen
     ensures { λ r. ⌜ r ≡ Screen.Refused number 0 ⌝ }
@@ -451,7 +372,7 @@ fn check_input(points: &[i32], work: usize) -> Screen
     if work < 2 * n {
         return refused(WORK);
     }
-    check_points(points, n)
+    check_points(points)
 }
 
 // A step's checks.
@@ -467,7 +388,7 @@ fn check_work(work: &[i32], n: usize) -> Screen
     if n == 0 {
         return refused(DRAINED);
     }
-    check_points(work, n)
+    check_points(&work[..2 * n])
 }
 
 // ---- The list

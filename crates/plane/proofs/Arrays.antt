@@ -6,7 +6,7 @@ use native.Mathlib.Numerals.{add-one}
 use native.Mathlib.Omega.{arith}
 use mathlib.Core.List.{List, [], _∷_, _++_}
 use lib.ListN.{length, getD, take, drop}
-use lib.Seq.{take-all, take-at}
+use lib.Seq.{take-suc, take-all, take-at}
 use lib.IntN.{ℤ, pos}
 use Rattle.plane.specs.declared.Point.{Point}
 use Rattle.plane.specs.declared.Rect.{Rect}
@@ -32,6 +32,18 @@ point-numbers [] i h = absurd (omega arith)
 point-numbers (x ∷ []) i h = absurd (omega arith)
 point-numbers (x ∷ y ∷ rest) zero h = refl
 point-numbers (x ∷ y ∷ rest) (suc i) h = rw (add-one, twice-suc i) (point-numbers rest i (omega arith) ∙ rw add-one)
+
+-- the points before the place after i
+pub points-next : (a : List ℤ) (i : ℕ) → i < length a / 2 → take (i + 1) (pointsOf a) ≡ take i (pointsOf a) ++ (getD (pointsOf a) i origin ∷ [])
+points-next a i h = rw add-one (take-suc (pointsOf a) i origin (omega (arith, length-points a)))
+
+-- the points of the numbers before a place are those before it
+pub points-take : (n : ℕ) (a : List ℤ) → pointsOf (take (2 * n) a) ≡ take n (pointsOf a)
+unfolding pointsOf
+points-take zero a = refl
+points-take (suc n) [] = rw (twice-suc n)
+points-take (suc n) (x ∷ []) = rw (twice-suc n)
+points-take (suc n) (x ∷ y ∷ rest) = rw (twice-suc n) (ap (λ l. record { x = x; y = y } ∷ l) (points-take n rest))
 
 -- points as an array are twice as many numbers
 pub length-flat-points : (ps : List Point) → length (flatPoints ps) ≡ 2 * length ps

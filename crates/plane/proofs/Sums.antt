@@ -3,7 +3,7 @@ use mathlib.Core.Path.{_≡_, refl, ap, ap₂, sym, _∙_}
 use Prim.Native.Nat.{ℕ, zero, suc, _+_, _-_, _*_, _≤_, _<_}
 use native.Mathlib.Omega.{arith}
 use native.Mathlib.Decide.{ℕ-discrete}
-use mathlib.Core.Bool.{Bool, true, false, cond, _&&_, _||_, false≢true}
+use mathlib.Core.Bool.{Bool, true, false, cond, _&&_, _||_, false≢true, or-false, or-assoc}
 use mathlib.Core.List.{List, [], _∷_, _++_, List·Memᴰ as In, List·Memᴰ·head as head, List·Memᴰ·tail as tail}
 use lib.ListN.{length, getD, take, drop, set, take-append-drop, length-set}
 use lib.Seq.{getD-set-same, getD-set-other}
@@ -106,6 +106,12 @@ module _ {A : Type 0} where
   unfolding any
   any-in f {l = b ∷ l} (head e) h = rw (← e, h)
   any-in f {l = b ∷ l} (tail m) h = or-right (f b) _ (any-in f m h)
+
+  -- with one more element at the end
+  pub any-last-added : (f : A → Bool) (l : List A) (a : A) → any f (l ++ (a ∷ [])) ≡ (any f l || f a)
+  unfolding any
+  any-last-added f [] a = or-false (f a)
+  any-last-added f (b ∷ l) a = rw (any-last-added f l a) (sym (or-assoc (f b) (any f l) (f a)))
 
   -- of the elements that pass one test, some passes another
   pub any-only : (f g : A → Bool) (l : List A) → any f (only g l) ≡ any (λ a. g a && f a) l

@@ -1,16 +1,14 @@
 -- What a toggle, and the four toggles of a step, do to every sum, count and parity over the points.
 use mathlib.Core.Path.{_≡_, refl, sym, ap, _∙_, subst}
-use Prim.Native.Nat.{ℕ, zero, suc, _+_, _≤_, _<_, compare·suc-suc}
+use Prim.Native.Nat.{ℕ, zero, suc, _+_, _≤_, _<_}
 use native.Mathlib.Omega.{arith}
-use mathlib.Core.Bool.{Bool, true, false, cond, _||_, xor}
+use mathlib.Core.Bool.{Bool, true, false, cond, xor}
 use mathlib.Core.List.{List, [], _∷_}
 use mathlib.Core.Option.{Option, none, some, Option·getD}
 use lib.ListN.{length, getD}
 use lib.IntN.{ℤ}
-use lib.Dec.{ltb}
-use borrow.Author.Tests.{lt-ltb}
 use Rattle.plane.specs.declared.Point.{Point}
-use Rattle.plane.specs.Lists.{bit, any, count, odd, sum}
+use Rattle.plane.specs.Lists.{bit, count, odd, sum}
 use Rattle.plane.specs.Words.{origin, same}
 use Rattle.plane.proofs.Bools.{isOdd, isOdd-bit, xor-back}
 use Rattle.plane.proofs.Sums.{sum-last-added, sum-remove, sum-length, count-sum}
@@ -55,17 +53,6 @@ place-first p (q ∷ qs) = go (same p q) (placeOf p qs) (first-suc (λ i. same p
     go : (b : Bool) {o : Option ℕ} (u : Option ℕ) → o ≡ further false u → further b u ≡ cond b (some 0) o
     go true u e = refl
     go false u e = sym e
-
--- with the length for no place, a list has a point exactly where its place is below the length
-pub any-placed : (p : Point) (ps : List Point) → any (same p) ps ≡ ltb (Option·getD (placeOf p ps) (length ps)) (length ps)
-unfolding placeOf any
-any-placed p [] = refl
-any-placed p (q ∷ qs) = go (same p q) (placeOf p qs) (any-placed p qs)
-  where
-    go : (b : Bool) (o : Option ℕ) → any (same p) qs ≡ ltb (Option·getD o (length qs)) (length qs) → (b || any (same p) qs) ≡ ltb (Option·getD (further b o) (suc (length qs))) (suc (length qs))
-    go true o e = sym (lt-ltb 0 (suc (length qs)) (omega arith))
-    go false none e = rw compare·suc-suc e
-    go false (some i) e = rw compare·suc-suc e
 
 -- ---- One toggle
 

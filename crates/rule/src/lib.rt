@@ -46,3 +46,5 @@ pub const ROOM: u32 = 8;
 pub const FLAT: u32 = 9;
 
 pub const DRAINED: u32 = 10;
+
+pub const TEXT: u32 = 11;

@@ -1,6 +1,7 @@
 -- `outline::first_bad` meets its contract. The invariant: no rectangle before place i offends.
 use Prim.Native.Nat.{_≤_, _-_}
 use native.Mathlib.Omega.{arith}
+use mathlib.Core.Path.{_≡_, ap, sym, _∙_}
 use borrow.Author.Needs.{needs}
 use Rattle.plane.specs.Words.{rectsOf}
 use Rattle.plane.proofs.Arrays.{length-rects}
@@ -20,16 +21,20 @@ abbrev μ-loop : tie.MeasureT-loop
 loop-holds : tie.Need-loop-holds Inv-loop μ-loop
 loop-holds c = (search needs, λ j h. absurd (omega arith))
 
+-- the test of this turn is whether the rectangle at place i offends
+tested : (c : tie.After-is-bad Inv-loop μ-loop) → let l = c .before .before .before in let r = l .before .args in offends (r .number) (rectAt (rectsOf (r .rects .now)) (l .loop .i)) ≡ c .is-bad .result
+tested c = sym (c .is-bad .ensures ∙ ap (offends (c .before .before .before .before .args .number)) (c .before .rect-at .ensures))
+
 returns : tie.Need-returns Inv-loop μ-loop
 unfolding placeGiven
 returns c =
     let l = c .before .before .before .before in
-    found (length-rects (l .before .args .rects .now)) (l .loop .inv .1) (search needs) (cc)
+    found (length-rects (l .before .args .rects .now)) (l .loop .inv .1) (search needs) (tested (c .before) ∙ c .if1 .taken)
 
 loop-again : tie.Need-loop-again Inv-loop μ-loop
 loop-again c =
     let l = c .before .before .before .before in
-    (search needs, none-below-next (l .loop .inv .1) (cc))
+    (search needs, none-below-next (l .loop .inv .1) (tested (c .before) ∙ c .if1 .left))
 
 returns-2 : tie.Need-returns-2 Inv-loop μ-loop
 unfolding placeGiven

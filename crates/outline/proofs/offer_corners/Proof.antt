@@ -1,11 +1,11 @@
 -- `outline::offer_corners` meets its contract: the four keys are taken one after another, or both rows are missed.
 use Prim.Native.Nat.{_≤_}
 use native.Mathlib.Omega.{arith}
-use mathlib.Core.Path.{sym, _∙_}
+use mathlib.Core.Path.{ap, sym, _∙_}
 use lib.ListN.{length}
 use borrow.Author.Needs.{needs}
 use Rattle.plane.proofs.Bools.{and-parts}
-use Rattle.outline.specs.Inner.{mostKeys}
+use Rattle.outline.specs.Inner.{mostKeys, keyOf}
 use Rattle.outline.proofs.Gathering.{corner-in-range, CornerKeys, corner-keys, takes-corners, corners-missed}
 use Rattle.outline.proofs.offer_corners.Statement.{statement}
 use Rattle.outline.proofs.offer_corners.Tie as tie
@@ -13,8 +13,11 @@ use Rattle.outline.proofs.offer_corners.Tie as tie
 -- the four keys are those of the corners
 keys : (c : tie.After-key-of4) → let k = c .before .before in let j = k .before .before in let i = j .before .before in CornerKeys (i .before .before .before .args .r) (i .key-of .result) (j .key-of2 .result) (k .key-of3 .result) (c .key-of4 .result)
 keys c =
-    let s = c .before .before .before .before .before .before .before .before .before in
-    corner-keys (s .args .r) (s .pre .2) (s .pre .3) (cc) (cc) (cc) (cc)
+    let k = c .before .before in
+    let j = k .before .before in
+    let i = j .before .before in
+    let s = i .before .before .before in
+    corner-keys (s .args .r) (s .pre .2) (s .pre .3) (i .key-of .ensures ∙ ap keyOf (i .before .corner .ensures)) (j .key-of2 .ensures ∙ ap keyOf (j .before .corner2 .ensures)) (k .key-of3 .ensures ∙ ap keyOf (k .before .corner3 .ensures)) (c .key-of4 .ensures ∙ ap keyOf (c .before .corner4 .ensures))
 
 returns : tie.Need-returns
 returns c =

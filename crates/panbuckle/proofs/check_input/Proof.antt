@@ -3,7 +3,6 @@ use borrow.Author.Needs.{needs}
 use borrow.Author.Tests.{lt-ltb, le-ltb, eq-eqb, ne-eqb}
 use Rattle.rule.specs.Table.{numberOf, placeGiven, verdict}
 use Rattle.panbuckle.specs.Inner.{inputChecks}
-use Rattle.panbuckle.proofs.Scan.{held-all}
 use Rattle.panbuckle.proofs.check_input.Statement.{statement}
 use Rattle.panbuckle.proofs.check_input.Tie as tie
 
@@ -21,7 +20,7 @@ returns-3 c = simp (eq-eqb _ _ (c .before .before .before .if1 .left), le-ltb _ 
 
 returns-4 : tie.Need-returns-4
 unfolding inputChecks verdict numberOf placeGiven
-returns-4 c = simp (eq-eqb _ _ (c .before .before .before .if1 .left), le-ltb _ _ (c .before .before .if2 .left), le-ltb _ _ (c .before .if3 .left)) (rw held-all at (c .check-points .ensures))
+returns-4 c = simp (eq-eqb _ _ (c .before .before .before .if1 .left), le-ltb _ _ (c .before .before .if2 .left), le-ltb _ _ (c .before .if3 .left)) (c .check-points .ensures)
 
 pub check-input-spec : {M : Type 1} → statement M
 check-input-spec = tie.close (tie.spec (λ c κs. search needs) returns (λ c κs. search needs) returns-2 (λ c. search needs) (λ c κs. search needs) returns-3 (λ c κs. search needs) returns-4)

@@ -5,8 +5,9 @@ use borrow.Author.Needs.{needs}
 use borrow.Author.Tests.{ne-eqb}
 use Rattle.rule.specs.Table.{verdict}
 use Rattle.rule.specs.Answers.{forwardAnswer, forwardWork, forwardOut}
+use Rattle.checks.proofs.Screens.{screen-clear, screen-refused}
 use Rattle.panbuckle.specs.Inner.{inputChecks}
-use Rattle.panbuckle.proofs.Screens.{screen-clear, screen-refused, input-accepted, input-refused, input-refused-not-8}
+use Rattle.panbuckle.proofs.BeforeRoom.{input-accepted, input-refused, input-refused-not-8}
 use Rattle.panbuckle.proofs.forward.Statement.{statement}
 use Rattle.panbuckle.proofs.forward.Tie as tie
 

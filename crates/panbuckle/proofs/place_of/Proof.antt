@@ -1,7 +1,7 @@
 -- `panbuckle::place_of` meets its contract. The invariant: no point before place i is p.
 use Prim.Native.Nat.{_≤_, _-_}
 use native.Mathlib.Omega.{arith}
-use mathlib.Core.Path.{_≡_, _∙_}
+use mathlib.Core.Path.{_≡_, sym, _∙_}
 use borrow.Author.Needs.{needs}
 use Rattle.plane.specs.Words.{same}
 use Rattle.rule.specs.Table.{pointAt}
@@ -27,7 +27,7 @@ tested : (c : tie.After-same-point Inv-loop μ-loop) → let l = c .before .befo
 tested c =
     let t = c .before .before in
     let s = t .before .before in
-    cc (held-at (s .args .n) (s .args .a .now) (s .pre) (t .before .loop .i) (t .loop-test .taken))
+    rw (held-at (s .args .n) (s .args .a .now) (s .pre) (t .before .loop .i) (t .loop-test .taken), ← c .before .point-at .ensures) (sym (c .same-point .ensures))
 
 returns : tie.Need-returns Inv-loop μ-loop
 returns c =

@@ -4,7 +4,7 @@ use mathlib.Core.Path.{sym, _∙_}
 use Rattle.rule.specs.Table.{verdict, stepChecks}
 use Rattle.rule.specs.Answers.{stepAnswer, stepWork}
 use Rattle.rule.proofs.Refusals.{step-accepted}
-use Rattle.panbuckle.proofs.Screens.{screen-clear, screen-refused}
+use Rattle.checks.proofs.Screens.{screen-clear, screen-refused}
 use Rattle.panbuckle.proofs.step.Statement.{statement}
 use Rattle.panbuckle.proofs.step.Tie as tie
 

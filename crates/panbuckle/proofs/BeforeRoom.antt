@@ -1,32 +1,17 @@
--- A screen, read back as the verdict that it is of; and what forward's checks before the room is known say of all its checks.
+-- What forward's checks before the room is known say of all its checks.
 use Prim.Native.Nat.{ℕ, _*_, _/_}
 use native.Mathlib.Omega.{arith}
-use mathlib.Core.Path.{_≡_, refl}
+use mathlib.Core.Path.{_≡_}
 use mathlib.Core.Logic.{_≢_}
 use mathlib.Core.List.{List, [], _∷_}
 use lib.ListN.{length}
 use lib.IntN.{ℤ}
 use Rattle.plane.specs.Words.{pointsOf}
 use Rattle.rule.specs.Rule.{ruleList}
-use Rattle.rule.specs.Table.{Check, numberOf, Verdict, accepted, refused, ROOM, pointChecks, forwardChecks, verdict, ForwardAccepted}
+use Rattle.rule.specs.Table.{Check, numberOf, accepted, refused, ROOM, pointChecks, forwardChecks, verdict, ForwardAccepted}
 use Rattle.rule.proofs.Verdicts.{accepted-clear, clear-append, refused-append, refused-number}
 use Rattle.rule.proofs.Refusals.{forward-accepted}
-use Rattle.panbuckle.specs.declared.Screen.the-variants.{Clear, Refused}
-use Rattle.panbuckle.specs.Inner.{screenOf, inputChecks}
-
--- ---- Screens
-
--- a clear screen is of an accepting verdict
-pub screen-clear : (v : Verdict) → screenOf v ≡ Clear → v ≡ accepted
-screen-clear accepted e = refl
-screen-clear (refused k p) e = cc
-
--- a screen's refusal is its verdict's
-pub screen-refused : (v : Verdict) {k p : ℕ} → screenOf v ≡ Refused k p → v ≡ refused k p
-screen-refused accepted e = cc
-screen-refused (refused j q) e = cc
-
--- ---- Forward's checks before the room is known
+use Rattle.panbuckle.specs.Inner.{inputChecks}
 
 -- forward's last check
 room : (a : List ℤ) (out : ℕ) → List Check

@@ -1,0 +1,5 @@
+pub mod Putting
+pub mod Reading
+pub mod Printing
+pub mod RoundTrip
+pub mod Outcomes

@@ -1,0 +1,5 @@
+pub mod Lines
+pub mod Grammar
+pub mod Checks
+pub mod Outcomes
+pub mod Kept

@@ -1,0 +1,49 @@
+-- What the private functions speak of. No caller needs these definitions: the promise is in Reading.
+use Prim.Native.Nat.{ℕ, suc, _+_}
+use mathlib.Core.List.{List}
+use mathlib.Core.Option.{Option, none, some}
+use lib.IntN.{ℤ}
+use lib.ListN.{length, drop}
+use Rattle.plane.specs.declared.Point.{Point}
+use Rattle.rule.specs.Table.{Check, TEXT}
+use Rattle.numerals.specs.declared.Numeral.{Numeral}
+use Rattle.numerals.specs.declared.Numeral.the-variants.{Number, Bad}
+use Rattle.reading.specs.declared.Parsed.{Parsed}
+use Rattle.reading.specs.declared.Parsed.the-variants.{Good, None}
+use Rattle.reading.specs.declared.LineRead.{LineRead}
+use Rattle.reading.specs.declared.LineRead.the-variants.{Read, Unread}
+use Rattle.reading.specs.declared.LinesChecked.{LinesChecked}
+use Rattle.reading.specs.declared.LinesChecked.the-variants.{AllGood, BadAt}
+use Rattle.reading.specs.Lines.{newline, before, linesOf, lineAt, pointOf, isBad}
+
+-- the number that bytes were read as
+abbrev pub numberIn : Numeral → Option ℤ
+numberIn Bad = none
+numberIn (Number z) = some z
+
+-- what the code says of a line's bytes
+abbrev pub parsed : Option Point → Parsed
+parsed none = None
+parsed (some p) = Good p
+
+-- what the code says of a line whose successor begins at a place
+abbrev pub lineSays : Option Point → ℕ → LineRead
+lineSays none next = Unread
+lineSays (some p) next = Read p next
+
+-- the place after the line that begins at a place of a text
+abbrev pub nextLine : List ℕ → ℕ → ℕ
+nextLine t at = at + suc (length (before newline (drop at t)))
+
+-- the line that begins at a place of a text
+abbrev pub lineFrom : List ℕ → ℕ → LineRead
+lineFrom t at = lineSays (pointOf (lineAt (linesOf (drop at t)) 0)) (nextLine t at)
+
+-- the check of a text's lines
+abbrev pub linesCheck : List ℕ → Check
+linesCheck t = TEXT (length (linesOf t)) (λ i. isBad (lineAt (linesOf t) i))
+
+-- what the code says of n lines, by the first bad one
+abbrev pub linesSay : Option ℕ → ℕ → LinesChecked
+linesSay none n = AllGood n
+linesSay (some i) n = BadAt i

@@ -1,0 +1,9 @@
+pub mod Writing
+pub mod Lines
+pub mod Checks
+pub mod Lengths
+pub mod Longest
+pub mod Listing
+pub mod Kept
+pub mod Worked
+pub mod Outcomes

@@ -1,0 +1,64 @@
+-- What the program does with the points read, by forward's contract.
+use Prim.Native.Nat.{ℕ}
+use mathlib.Core.Path.{_≡_, refl, ap, _∙_}
+use mathlib.Core.Logic.{_≢_}
+use mathlib.Core.List.{List}
+use lib.ListN.{length}
+use lib.IntN.{ℤ}
+use Rattle.plane.specs.Words.{origin, pointsOf, flatPoints}
+use Rattle.plane.proofs.Arrays.{points-flat}
+use Rattle.rule.specs.declared.ForwardAnswer.{ForwardAnswer}
+use Rattle.rule.specs.Rule.{ruleList}
+use Rattle.rule.specs.Table.{Verdict, accepted, refused, verdict}
+use Rattle.rule.proofs.Verdicts.{numberIn, placeIn}
+use Rattle.rule.proofs.Refusals.{forward-says}
+use Rattle.rule.proofs.Demands.{forward-verdict}
+use Rattle.panbuckle.specs.Contracts.{ForwardDone}
+use Rattle.panbuckle.proofs.Kept.{answers-0, done-list, done-sums}
+use Rattle.numerals.specs.Bytes.{putAt}
+use Rattle.reading.specs.Reading.{pointsRead, textChecks}
+use Rattle.text.specs.declared.Report.{Report}
+use Rattle.text.specs.Program.{mostWork, mostList, listLines, refusalLine, programPrints, programReport, Fractured}
+use Rattle.text.specs.Inner.{says, listed, Listed}
+use Rattle.text.proofs.Checks.{program-forward, program-refused, text-names-none}
+
+-- a refusal is its number and its place
+refusal-is : (v : Verdict) → numberIn v ≢ 0 → v ≡ refused (numberIn v) (placeIn v)
+refusal-is accepted n = absurd (n refl)
+refusal-is (refused k p) n = refl
+
+module _ {a work out : List ℤ} {r : ForwardAnswer} {work-after out-after : List ℤ} (d : ForwardDone a work out r work-after out-after) where
+  -- with the program's room a list is accepted
+  pub says-accepted : length work ≡ mostWork → length out ≡ mostList → r .answer ≡ 0 → says a ≡ accepted
+  says-accepted w o done = rw (w, o) at (forward-verdict a (length work) (length out) (answers-0 d done))
+
+  -- and anything else refused
+  pub says-refused : length work ≡ mostWork → length out ≡ mostList → r .answer ≢ 0 → says a ≡ refused (r .answer) (r .place)
+  says-refused w o n =
+      let says-it = forward-says a (length work) (length out) in
+      let number : r .answer ≡ numberIn (says a) = rw (w, o) at (ap (λ q. q .answer) (d .answer) ∙ says-it .0) in
+      let place : r .place ≡ placeIn (says a) = rw (w, o) at (ap (λ q. q .place) (d .answer) ∙ says-it .1) in
+      rw (number, place) (refusal-is (says a) (rw number at n))
+
+  -- a list is printed as the rule's
+  pub listed-lines : r .answer ≡ 0 → listed r out-after ≡ listLines (ruleList (pointsOf a))
+  unfolding listLines
+  listed-lines done =
+      let list = done-list d done in
+      let sums = rw list at (done-sums d done) in
+      cc (sums .0, sums .1, sums .2)
+
+-- where the text is accepted, that is what the program does
+pub fractured-listed : {t out : List ℕ} {r : Report} {after : List ℕ} → verdict (textChecks t) ≡ accepted → Listed (flatPoints (pointsRead t)) (length t) out r after → Fractured t out r after
+unfolding programReport programPrints
+fractured-listed {t} e l =
+    let v = program-forward t e in
+    let same = points-flat (pointsRead t) in
+    record { report = rw v (rw same at (l .report)); output = rw v (rw same at (l .output)) }
+
+-- where it is refused, that is printed, and no point is named
+pub fractured-refused : {t out : List ℕ} {r : Report} {after : List ℕ} {k p : ℕ} → verdict (textChecks t) ≡ refused k p → r ≡ record { answer = k; place = p; point = origin; read = length t; printed = length (refusalLine k p) } → after ≡ putAt out 0 (refusalLine k p) → Fractured t out r after
+unfolding programReport programPrints
+fractured-refused {t} e report output =
+    let v = program-refused t e in
+    record { report = rw (v, text-names-none t (pointsRead t) e) report; output = rw v output }

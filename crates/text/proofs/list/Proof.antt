@@ -1,0 +1,75 @@
+-- `text::list` meets its contract: forward's answer is printed, and a list fits.
+use native.Mathlib.Omega.{arith}
+use mathlib.Core.Path.{_≡_, _∙_}
+use lib.ListN.{length, replicate, length-replicate}
+use lib.IntN.{pos}
+use borrow.Author.Needs.{needs}
+use Rattle.plane.specs.Words.{pointsOf}
+use Rattle.rule.specs.Rule.{ruleList}
+use Rattle.rule.specs.Table.{accepted, refused, ForwardAccepted}
+use Rattle.rule.proofs.Refusals.{forward-accepted}
+use Rattle.panbuckle.specs.Contracts.{ForwardDone}
+use Rattle.panbuckle.proofs.Kept.{lengths-kept, done-list, done-sums}
+use Rattle.text.specs.Program.{mostWork, mostList, listLines}
+use Rattle.text.specs.Inner.{says, listed}
+use Rattle.text.proofs.Longest.{list-fits}
+use Rattle.text.proofs.Listing.{says-accepted, says-refused, listed-lines}
+use Rattle.text.proofs.list.Statement.{statement}
+use Rattle.text.proofs.list.Tie as tie
+
+-- the arrays that forward is lent have the program's lengths
+ran : (c : tie.After-forward) → ForwardDone (c .before .before .before .before .args .points .now) (replicate mostWork (pos 0)) (replicate mostList (pos 0)) (c .forward .result) (c .forward .last .1 .0) (c .forward .last .1 .1 .0)
+ran c = c .forward .ensures
+
+accepts : (c : tie.Then1) → says (c .before .before .before .before .before .before .before .before .args .points .now) ≡ accepted
+accepts c = says-accepted (ran (c .before .before .before .before)) (length-replicate mostWork (pos 0)) (length-replicate mostList (pos 0)) (c .if1 .taken)
+
+lines : (c : tie.Then1) → let f = c .before .before .before .before in listed (f .forward .result) (f .forward .last .1 .1 .0) ≡ listLines (ruleList (pointsOf (f .before .before .before .before .args .points .now)))
+lines c = listed-lines (ran (c .before .before .before .before)) (c .if1 .taken)
+
+refuses : (c : tie.Else1) → let f = c .before .before .before .before in says (f .before .before .before .before .args .points .now) ≡ refused (f .forward .result .answer) (f .forward .result .place)
+refuses c =
+    let f = c .before .before .before .before in
+    says-refused (ran f) (length-replicate mostWork (pos 0)) (length-replicate mostList (pos 0)) (c .if1 .left)
+
+print-list-requires : tie.Need-print-list-requires
+print-list-requires c κs =
+    let t = c .before .before in
+    let f = t .before .before .before .before in
+    let a = f .before .before .before .before .args .points .now in
+    let ok : ForwardAccepted a mostWork mostList = forward-accepted a mostWork mostList .0 (accepts t) in
+    let list = done-list (ran f) (t .if1 .taken) in
+    let count : f .forward .result .count ≡ length (ruleList (pointsOf a)) = rw list at (done-sums (ran f) (t .if1 .taken) .0) in
+    let room : length (f .forward .last .1 .1 .0) ≡ mostList = lengths-kept (ran f) .1 ∙ length-replicate mostList (pos 0) in
+    (omega (arith, ok .room), rw (lines t) (list-fits a mostWork ok))
+
+returns : tie.Need-returns
+returns c =
+    let p = c .before .before .before .before in
+    let t = p .before .before .before in
+    record { report = rw (accepts t) (rw (c .before .none .ensures, p .print-list .ensures .0, lines t) at (c .reported .ensures)); output = rw (accepts t) (rw (lines t) at (p .print-list .ensures .1)) }
+
+returns-2 : tie.Need-returns-2
+returns-2 c =
+    let p = c .before .before .before .before in
+    let e = p .before .before in
+    record { report = rw (refuses e) (rw (c .before .point-named .ensures, p .print-refusal .ensures .0) at (c .reported2 .ensures)); output = rw (refuses e) (p .print-refusal .ensures .1) }
+
+pub list-spec : {M : Type 1} → statement M
+list-spec =
+    tie.close
+    (tie.spec
+    (λ c. search needs)
+    (λ c. search needs)
+    (λ c κs. search needs)
+    (λ c. search needs)
+    print-list-requires
+    (λ c κs. search needs)
+    (λ c κs. search needs)
+    (λ c. search needs)
+    returns
+    (λ c κs. search needs)
+    (λ c κs. search needs)
+    (λ c κs. search needs)
+    (λ c. search needs)
+    returns-2)

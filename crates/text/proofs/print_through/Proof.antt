@@ -1,0 +1,56 @@
+-- `text::print_through` meets its contract: what is put are the bytes of the lines.
+use Prim.Native.Nat.{ℕ, _+_, _≤_}
+use native.Mathlib.Omega.{arith}
+use mathlib.Core.Path.{_≡_, ap, _∙_, sym}
+use mathlib.Core.List.{List, _++_}
+use lib.ListN.{length, take}
+use borrow.Author.Needs.{needs}
+use Rattle.plane.specs.Words.{rectsOf}
+use Rattle.text.specs.Program.{sumsLine, rectLines}
+use Rattle.text.proofs.Writing.{wrote-front, wrote-within, wrote-then, room-first, room-then}
+use Rattle.text.proofs.print_through.Statement.{statement}
+use Rattle.text.proofs.print_through.Tie as tie
+
+-- the line of the sums, and the lines of the rectangles
+abbrev sums : tie.Start → List ℕ
+sums s = sumsLine (s .args .sums .count) (s .args .sums .area) (s .args .sums .edge)
+
+abbrev rects : tie.Start → List ℕ
+rects s = rectLines (take (s .args .sums .count) (rectsOf (s .args .rects .now)))
+
+-- both have room
+fits : (s : tie.Start) → 0 + length (sums s ++ rects s) ≤ length (s .args .lines .now)
+fits s = omega (arith, s .pre .1)
+
+first-fits : (s : tie.Start) → 0 + length (sums s) ≤ length (s .args .lines .now)
+first-fits s = room-first 0 _ (sums s) (rects s) (fits s)
+
+rest-fits : (c : tie.After-put-sums) → let s = c .before .before .before .before in c .put-sums .result + length (rects s) ≤ length (c .put-sums .last .0)
+rest-fits c = let s = c .before .before .before .before in room-then (rects s) (c .put-sums .ensures) (fits s)
+
+-- what is put are both
+lines : (c : tie.After-put-rects) → let s = c .before .before .before .before .before .before .before .before in (c .put-rects .result ≡ length (sums s ++ rects s)) × (take (c .put-rects .result) (c .put-rects .last .0) ≡ sums s ++ rects s)
+lines c =
+    let d = c .before .before .before .before in
+    let s = d .before .before .before .before in
+    let w = wrote-then (d .put-sums .ensures) (c .put-rects .ensures) (first-fits s) in
+    (omega (arith, w .place), wrote-front w)
+
+returns : tie.Need-returns
+returns c =
+    let p = c .before .before in
+    let h = lines (p .before .before .before .before .before) in
+    (h .0, rw (h .1) at (p .put-bytes .ensures .output))
+
+pub print-through-spec : {M : Type 1} → statement M
+print-through-spec =
+    tie.close
+    (tie.spec
+    (λ c κs. omega (arith, first-fits (c .before .before .before)))
+    (λ c κs. let d = c .before .before .before in (d .before .before .before .before .pre .0, rest-fits d))
+    (λ c. let d = c .before .before .before in wrote-within (d .put-rects .ensures) (rest-fits (d .before .before .before .before)))
+    (λ c. let h = lines (c .before .before .before .before) in h .0 ∙ sym (ap length (h .1)))
+    (λ c κs. search needs)
+    (λ c. search needs)
+    (λ c. search needs)
+    returns)

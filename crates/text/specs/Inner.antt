@@ -1,0 +1,40 @@
+-- What the private functions speak of. No caller needs these definitions: the promises are in Program and Sentences.
+use Prim.Native.Nat.{ℕ, _+_}
+use mathlib.Core.Path.{_≡_}
+use mathlib.Core.List.{List, _++_}
+use lib.ListN.{length, take}
+use lib.IntN.{ℤ}
+use Rattle.plane.specs.Words.{pointsOf, rectsOf}
+use Rattle.rule.specs.declared.ForwardAnswer.{ForwardAnswer}
+use Rattle.rule.specs.Rule.{ruleList}
+use Rattle.rule.specs.Table.{Verdict, verdict, forwardChecks}
+use Rattle.numerals.specs.Bytes.{pasted, putAt}
+use Rattle.numerals.specs.Numerals.{decimal, signed}
+use Rattle.text.specs.declared.Report.{Report}
+use Rattle.text.specs.Program.{mostWork, mostList, sumsLine, rectLines, printed, reportSays}
+
+-- bytes written into an output from a place on: the place after them, and the output afterwards
+pub record Wrote (out : List ℕ) (at : ℕ) (bytes : List ℕ) (r : ℕ) (out-after : List ℕ) : Type 0 where
+  pub place : r ≡ at + length bytes
+  pub output : out-after ≡ pasted out at bytes
+
+-- words, and then a number
+abbrev pub worded : (words : List ℕ) (n : ℕ) → List ℕ
+worded words n = words ++ decimal n
+
+-- a number with its sign, and then words
+abbrev pub field : ℤ → (words : List ℕ) → List ℕ
+field z words = signed z ++ words
+
+-- what forward says of the points of an array, with the program's work and room
+abbrev pub says : List ℤ → Verdict
+says a = verdict (forwardChecks a mostWork mostList)
+
+-- the program on the numbers of a text that was read: its report, and the output afterwards
+pub record Listed (a : List ℤ) (read : ℕ) (out : List ℕ) (r : Report) (out-after : List ℕ) : Type 0 where
+  pub report : r ≡ reportSays (says a) (pointsOf a) read (length (printed (says a) (ruleList (pointsOf a))))
+  pub output : out-after ≡ putAt out 0 (printed (says a) (ruleList (pointsOf a)))
+
+-- the lines of a list with these sums, of the rectangles that an array begins with
+abbrev pub listed : ForwardAnswer → List ℤ → List ℕ
+listed sums rects = sumsLine (sums .count) (sums .area) (sums .edge) ++ rectLines (take (sums .count) (rectsOf rects))

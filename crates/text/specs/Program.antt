@@ -1,0 +1,87 @@
+-- What the program refuses, prints and reports, of the bytes that it reads.
+use Prim.Native.Nat.{ℕ, _*_}
+use mathlib.Core.Path.{_≡_}
+use mathlib.Core.Bool.{Bool, cond, _&&_}
+use mathlib.Core.List.{List, [], _∷_, _++_}
+use lib.ListN.{length}
+use lib.Dec.{leb}
+use Rattle.plane.specs.declared.Point.{Point}
+use Rattle.plane.specs.declared.Rect.{Rect}
+use Rattle.plane.specs.Lists.{sum}
+use Rattle.plane.specs.Words.{origin, areaOf, edgeOf, flatPoints}
+use Rattle.rule.specs.Rule.{ruleList}
+use Rattle.rule.specs.Table.{Check, Verdict, accepted, refused, verdict, pointAt, forwardChecks}
+use Rattle.numerals.specs.Bytes.{ascii, putAt}
+use Rattle.numerals.specs.Numerals.{decimal, signed}
+use Rattle.reading.specs.Reading.{pointsRead, textChecks}
+use Rattle.text.specs.declared.Report.{Report}
+
+-- ---- What is refused
+
+-- the most numbers of a working array: two for each of 4,096 points
+abbrev pub mostWork : ℕ
+mostWork = 2 * 4096
+
+-- the most numbers of a list: four for each of 3,200 rectangles
+abbrev pub mostList : ℕ
+mostList = 4 * 3200
+
+-- MANY for bytes, TEXT, MANY for lines, then the forward checks with room for 3,200 rectangles
+unfoldable pub programChecks : List ℕ → List Check
+programChecks t = textChecks t ++ forwardChecks (flatPoints (pointsRead t)) mostWork mostList
+
+-- ---- What is printed
+
+-- the first line: count, area and edge
+unfoldable pub sumsLine : (count area edge : ℕ) → List ℕ
+sumsLine count area edge = ascii "rects " ++ (decimal count ++ (ascii " area " ++ (decimal area ++ (ascii " edge " ++ (decimal edge ++ ascii "\n")))))
+
+-- a rectangle's line: X Y W H
+unfoldable pub rectLine : Rect → List ℕ
+rectLine r = signed (r .x) ++ (ascii " " ++ (signed (r .y) ++ (ascii " " ++ (signed (r .w) ++ (ascii " " ++ (signed (r .h) ++ ascii "\n"))))))
+
+-- a line for each rectangle
+unfoldable pub rectLines : List Rect → List ℕ
+rectLines [] = []
+rectLines (r ∷ rs) = rectLine r ++ rectLines rs
+
+-- a list: the sums, and then the rectangles
+unfoldable pub listLines : List Rect → List ℕ
+listLines rs = sumsLine (length rs) (sum areaOf rs) (sum edgeOf rs) ++ rectLines rs
+
+-- a refusal: its number and its place
+unfoldable pub refusalLine : (number place : ℕ) → List ℕ
+refusalLine number place = ascii "refused " ++ (decimal number ++ (ascii " place " ++ (decimal place ++ ascii "\n")))
+
+-- a list, or a refusal
+abbrev pub printed : Verdict → List Rect → List ℕ
+printed accepted rs = listLines rs
+printed (refused k p) rs = refusalLine k p
+
+-- what the program prints, of what it reads
+unfoldable pub programPrints : List ℕ → List ℕ
+programPrints t = printed (verdict (programChecks t)) (ruleList (pointsRead t))
+
+-- ---- What is reported
+
+-- a refusal names a point: RANGE, REPEATED, ROW and COLUMN do
+unfoldable pub namesOne : (number : ℕ) → Bool
+namesOne k = leb 4 k && leb k 7
+
+-- the point that a refusal names; (0, 0), if it names none
+unfoldable pub offender : (number place : ℕ) → List Point → Point
+offender k p ps = cond (namesOne k) (pointAt ps p) origin
+
+-- answer, place, the point named, and how many bytes were read and printed
+abbrev pub reportSays : Verdict → List Point → (read printed : ℕ) → Report
+reportSays accepted ps read n = record { answer = 0; place = 0; point = origin; read = read; printed = n }
+reportSays (refused k p) ps read n = record { answer = k; place = p; point = offender k p ps; read = read; printed = n }
+
+-- what the program knows at its end, of what it reads
+unfoldable pub programReport : List ℕ → Report
+programReport t = reportSays (verdict (programChecks t)) (pointsRead t) (length t) (length (programPrints t))
+
+-- the program on slices, of a text and an output: its report, and the output afterwards, which holds what is printed if that has room
+pub record Fractured (t out : List ℕ) (r : Report) (out-after : List ℕ) : Type 0 where
+  pub report : r ≡ programReport t
+  pub output : out-after ≡ putAt out 0 (programPrints t)

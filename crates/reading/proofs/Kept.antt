@@ -27,7 +27,7 @@ unfolding textChecks
 lines-are-points t e = points-all (linesOf t) (accepted-clear (textChecks t) .0 e .1 .0)
 
 -- and they are not too many
-lines-few : (t : List ℕ) → verdict (textChecks t) ≡ accepted → length (linesOf t) ≤ 4096
+pub lines-few : (t : List ℕ) → verdict (textChecks t) ≡ accepted → length (linesOf t) ≤ 4096
 unfolding textChecks
 lines-few t e = ltb-false 4096 (length (linesOf t)) (accepted-clear (textChecks t) .0 e .1 .1 .0)
 

@@ -129,8 +129,8 @@ program-within t h =
     square-most : (n : ℕ) → n ≤ 65_536 → n * n ≤ 2 ^ 32
     square-most n h = omega (arith, mul-le-mul-left n h, mul-le-mul-right 65_536 h)
 
--- whatever is refused, the place has at most twenty digits
-place-small : (t : List ℕ) {k p : ℕ} → FirstGiven (programChecks t) k p → p < 10 ^ 20
+-- whatever is refused, the place is a number of 32 bits, or the next
+pub place-small : (t : List ℕ) {k p : ℕ} → FirstGiven (programChecks t) k p → p ≤ 2 ^ 32
 unfolding programChecks textChecks
 place-small t (this (by-whole e)) = omega arith
 place-small t (later n f) =
@@ -148,4 +148,4 @@ longest-fits t = go (verdict (programChecks t)) refl
 
     go : (v : Verdict) → verdict (programChecks t) ≡ v → length (printed v (ruleList ps)) ≤ 153_679
     go accepted e = rw (points-flat ps) at (list-fits (flatPoints ps) mostWork (program-accepts t e))
-    go (refused k p) e = omega (arith, refusal-length k p (omega (arith, program-number t e)) (place-small t (refused-exactly (programChecks t) k p .0 e)))
+    go (refused k p) e = omega (arith, refusal-length k p (omega (arith, program-number t e)) (omega (arith, place-small t (refused-exactly (programChecks t) k p .0 e))))

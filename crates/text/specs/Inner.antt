@@ -1,5 +1,5 @@
 -- What the private functions speak of. No caller needs these definitions: the promises are in Program and Sentences.
-use Prim.Native.Nat.{ℕ, _+_}
+use Prim.Native.Nat.{ℕ}
 use mathlib.Core.Path.{_≡_}
 use mathlib.Core.List.{List, _++_}
 use lib.ListN.{length, take}
@@ -8,15 +8,10 @@ use Rattle.plane.specs.Words.{pointsOf, rectsOf}
 use Rattle.rule.specs.declared.ForwardAnswer.{ForwardAnswer}
 use Rattle.rule.specs.Rule.{ruleList}
 use Rattle.rule.specs.Table.{Verdict, verdict, forwardChecks}
-use Rattle.numerals.specs.Bytes.{pasted, putAt}
+use Rattle.numerals.specs.Bytes.{putAt}
 use Rattle.numerals.specs.Numerals.{decimal, signed}
 use Rattle.text.specs.declared.Report.{Report}
 use Rattle.text.specs.Program.{mostWork, mostList, sumsLine, rectLines, printed, reportSays}
-
--- bytes written into an output from a place on: the place after them, and the output afterwards
-pub record Wrote (out : List ℕ) (at : ℕ) (bytes : List ℕ) (r : ℕ) (out-after : List ℕ) : Type 0 where
-  pub place : r ≡ at + length bytes
-  pub output : out-after ≡ pasted out at bytes
 
 -- words, and then a number
 abbrev pub worded : (words : List ℕ) (n : ℕ) → List ℕ

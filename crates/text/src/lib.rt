@@ -1,13 +1,12 @@
 // The program's whole behaviour on slices: bytes in, bytes out. What is refused, printed and said is in specs/.
-ghost use Prim.Native.Nat.{_+_, _*_, _<_, _≤_};
+ghost use Prim.Native.Nat.{_+_, _*_, _≤_};
 ghost use mathlib.Core.Path.{_≡_};
 ghost use lib.ListN.{length, take};
 ghost use Rattle.plane.specs.Words.{origin, pointsOf, rectsOf};
-ghost use Rattle.rule.specs.Table.{pointAt, rectAt};
-ghost use Rattle.numerals.specs.Bytes.{putAt, Put};
+ghost use Rattle.numerals.specs.Bytes.{putAt, Put, Wrote};
 ghost use Rattle.text.specs.Program.{sumsLine, rectLine, rectLines, refusalLine, namesOne, offender, Fractured};
 ghost use Rattle.text.specs.Sentences.{manySays, namesPoint, pointFault, roomSays, textSays, sentence};
-ghost use Rattle.text.specs.Inner.{Wrote, worded, field, listed, Listed};
+ghost use Rattle.text.specs.Inner.{worded, field, listed, Listed};
 use numerals::put_bytes;
 use numerals::put_number;
 use numerals::put_signed;
@@ -15,6 +14,8 @@ use panbuckle::ForwardAnswer;
 use panbuckle::Point;
 use panbuckle::Rect;
 use panbuckle::forward;
+use places::point_at;
+use places::rect_at;
 use reading::MOST_BYTES;
 use reading::read_points;
 use rule::COLUMN;
@@ -82,18 +83,6 @@ fn put_refusal(out: &mut [u8], number: u32, place: u64) -> usize
     put_bytes(out, b, b"\n")
 }
 
-fn rect_at(rects: &[i32], i: usize) -> Rect
-    requires { ⌜ 4 * i + 3 < length (now rects) ⌝ }
-    ensures { λ r. ⌜ r ≡ rectAt (rectsOf (now (rects .entry))) i ⌝ }
-{
-    Rect {
-        x: rects[4 * i],
-        y: rects[4 * i + 1],
-        w: rects[4 * i + 2],
-        h: rects[4 * i + 3],
-    }
-}
-
 fn put_rect(out: &mut [u8], at: usize, r: Rect) -> usize
     requires { ⌜ at + length (rectLine r) ≤ length (now out) ⌝ }
     ensures { λ n. ⌜ Wrote (now (out .entry)) at (rectLine r) n (now (out .exit)) ⌝ }
@@ -127,25 +116,12 @@ fn names_one(number: u32) -> bool
     (RANGE <= number) & (number <= COLUMN)
 }
 
-fn point_at(a: &[i32], i: usize) -> Point
-    requires { ⌜ 2 * i + 1 < length (now a) ⌝ }
-    ensures { λ r. ⌜ r ≡ pointAt (pointsOf (now (a .entry))) i ⌝ }
-{
-    Point {
-        x: a[2 * i],
-        y: a[2 * i + 1],
-    }
-}
-
 // The point that a refusal names.
 fn point_named(points: &[i32], number: u32, place: u64) -> Point
     ensures { λ r. ⌜ r ≡ offender number place (pointsOf (now (points .entry))) ⌝ }
 {
-    let i = place as usize;
     if names_one(number) {
-        if i < points.len() / 2 {
-            return point_at(points, i);
-        }
+        return point_at(points, place as usize);
     }
     none()
 }

@@ -16,8 +16,8 @@ filled n = rw (length-replicate {A = ℕ} n 0) (omega arith)
 array-share-prefix-printed : tie.Need-array-share-prefix-printed
 array-share-prefix-printed c = prints-all (c .before .answer .ensures) (filled 153_679) .1
 
-slice-aggregate-write-all-2 : tie.Need-slice-aggregate-write-all-2
-slice-aggregate-write-all-2 c = counts _ _ (prints-all (c .before .before .answer .ensures) (filled 153_679) .1) .1
+slice-aggregate-write-output : tie.Need-slice-aggregate-write-output
+slice-aggregate-write-output c = counts _ _ (prints-all (c .before .before .answer .ensures) (filled 153_679) .1) .1
 
 pub main-spec : {M : Type 1} → statement M
 main-spec =
@@ -26,15 +26,11 @@ main-spec =
     (λ c. sym (length-replicate {A = ℕ} 65_537 0))
     (λ c κs. search needs)
     (λ c. search needs)
-    (λ c κs. search needs)
-    (λ c. search needs)
     (λ c. search needs)
     (λ c. sym (length-replicate {A = ℕ} 153_679 0))
     (λ c κs. search needs)
     array-share-prefix-printed
-    slice-aggregate-write-all-2
-    (λ c κs. search needs)
-    (λ c. search needs)
+    slice-aggregate-write-output
     (λ c κs. search needs)
     (λ c κs. search needs)
     (λ c. search needs)

@@ -2,7 +2,7 @@
 use native.Mathlib.Omega.{arith}
 use lib.ListN.{length-take}
 use borrow.Author.Needs.{needs}
-use Rattle.text.proofs.Writing.{wrote-front, wrote-many}
+use Rattle.numerals.proofs.Writing.{wrote-front, wrote-many}
 use Rattle.text.proofs.complaint.Statement.{statement}
 use Rattle.text.proofs.complaint.Tie as tie
 

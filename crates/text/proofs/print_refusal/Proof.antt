@@ -5,7 +5,7 @@ use mathlib.Core.Path.{_≡_, ap, _∙_, sym}
 use lib.ListN.{length, take}
 use borrow.Author.Needs.{needs}
 use Rattle.text.specs.Program.{refusalLine}
-use Rattle.text.proofs.Writing.{wrote-front, wrote-within}
+use Rattle.numerals.proofs.Writing.{wrote-front, wrote-within}
 use Rattle.text.proofs.Lines.{refusal-length}
 use Rattle.text.proofs.print_refusal.Statement.{statement}
 use Rattle.text.proofs.print_refusal.Tie as tie

@@ -7,7 +7,7 @@ use lib.ListN.{length, take}
 use borrow.Author.Needs.{needs}
 use Rattle.plane.specs.Words.{rectsOf}
 use Rattle.text.specs.Program.{sumsLine, rectLines}
-use Rattle.text.proofs.Writing.{wrote-front, wrote-within, wrote-then, room-first, room-then}
+use Rattle.numerals.proofs.Writing.{wrote-front, wrote-within, wrote-then, room-first, room-then}
 use Rattle.text.proofs.print_through.Statement.{statement}
 use Rattle.text.proofs.print_through.Tie as tie
 

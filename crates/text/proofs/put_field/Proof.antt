@@ -3,8 +3,8 @@ use native.Mathlib.Omega.{arith}
 use borrow.Author.Needs.{needs}
 use Rattle.plane.proofs.Bits.{back}
 use Rattle.numerals.specs.Numerals.{signed}
-use Rattle.text.specs.Inner.{Wrote}
-use Rattle.text.proofs.Writing.{wrote, wrote-then, room-first, room-then}
+use Rattle.numerals.proofs.Writing.{wrote, wrote-then, room-first, room-then}
+use Rattle.numerals.specs.Bytes.{Wrote}
 use Rattle.text.proofs.put_field.Statement.{statement}
 use Rattle.text.proofs.put_field.Tie as tie
 

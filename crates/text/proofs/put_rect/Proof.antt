@@ -6,9 +6,9 @@ use mathlib.Core.List.{List, _++_}
 use lib.ListN.{length}
 use borrow.Author.Needs.{needs}
 use Rattle.plane.proofs.Bits.{back}
-use Rattle.numerals.specs.Bytes.{ascii}
-use Rattle.text.specs.Inner.{Wrote, field}
-use Rattle.text.proofs.Writing.{wrote-then, room-first, room-then}
+use Rattle.numerals.specs.Bytes.{ascii, Wrote}
+use Rattle.text.specs.Inner.{field}
+use Rattle.numerals.proofs.Writing.{wrote-then, room-first, room-then}
 use Rattle.text.proofs.Lines.{rect-pieces}
 use Rattle.text.proofs.put_rect.Statement.{statement}
 use Rattle.text.proofs.put_rect.Tie as tie

@@ -10,9 +10,9 @@ use Rattle.plane.specs.declared.Rect.{Rect}
 use Rattle.plane.specs.Words.{rectsOf}
 use Rattle.plane.proofs.Arrays.{length-rects}
 use Rattle.rule.specs.Table.{rectAt}
+use Rattle.numerals.specs.Bytes.{Wrote}
 use Rattle.text.specs.Program.{rectLine, rectLines}
-use Rattle.text.specs.Inner.{Wrote}
-use Rattle.text.proofs.Writing.{wrote-nothing, wrote-length, wrote-then, room-first, room-then}
+use Rattle.numerals.proofs.Writing.{wrote-nothing, wrote-length, wrote-then, room-first, room-then}
 use Rattle.text.proofs.Lines.{rect-lines-next, rect-lines-more}
 use Rattle.text.proofs.put_rects.Statement.{statement}
 use Rattle.text.proofs.put_rects.Tie as tie
@@ -77,7 +77,7 @@ put-rects-spec =
     Inv-loop
     μ-loop
     loop-holds
-    (λ c κs. omega arith)
+    (λ c κs. search needs)
     put-rect-requires
     (λ c. omega arith)
     (λ c. omega arith)

@@ -7,7 +7,7 @@ use lib.ListN.{length}
 use borrow.Author.Needs.{needs}
 use Rattle.numerals.specs.Bytes.{ascii}
 use Rattle.text.specs.Inner.{worded}
-use Rattle.text.proofs.Writing.{wrote, wrote-then, room-first, room-then}
+use Rattle.numerals.proofs.Writing.{wrote, wrote-then, room-first, room-then}
 use Rattle.text.proofs.Lines.{sums-pieces}
 use Rattle.text.proofs.put_sums.Statement.{statement}
 use Rattle.text.proofs.put_sums.Tie as tie

@@ -1,8 +1,8 @@
 -- `text::put_worded` meets its contract: the words are written, and then the number.
 use borrow.Author.Needs.{needs}
 use Rattle.numerals.specs.Numerals.{decimal}
-use Rattle.text.specs.Inner.{Wrote}
-use Rattle.text.proofs.Writing.{wrote, wrote-then, room-first, room-then}
+use Rattle.numerals.proofs.Writing.{wrote, wrote-then, room-first, room-then}
+use Rattle.numerals.specs.Bytes.{Wrote}
 use Rattle.text.proofs.put_worded.Statement.{statement}
 use Rattle.text.proofs.put_worded.Tie as tie
 

@@ -7,12 +7,12 @@ use mathlib.Core.List.{List, _++_}
 use lib.ListN.{length}
 use borrow.Author.Needs.{needs}
 use borrow.Author.Tests.{le-leb, lt-leb, ne-eqb}
+use Rattle.numerals.specs.Bytes.{Wrote}
 use Rattle.text.specs.declared.Report.{Report}
 use Rattle.text.specs.Program.{namesOne}
 use Rattle.text.specs.Sentences.{namesPoint, pointFault, sentence}
-use Rattle.text.specs.Inner.{Wrote}
 use Rattle.text.proofs.Lengths.{point-length}
-use Rattle.text.proofs.Writing.{wrote-then, room-first, room-then}
+use Rattle.numerals.proofs.Writing.{wrote-then, room-first, room-then}
 use Rattle.text.proofs.say.Statement.{statement}
 use Rattle.text.proofs.say.Tie as tie
 

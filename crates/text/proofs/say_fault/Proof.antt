@@ -2,7 +2,7 @@
 use borrow.Author.Needs.{needs}
 use borrow.Author.Tests.{ne-eqb}
 use Rattle.text.specs.Sentences.{pointFault}
-use Rattle.text.proofs.Writing.{wrote}
+use Rattle.numerals.proofs.Writing.{wrote}
 use Rattle.text.proofs.say_fault.Statement.{statement}
 use Rattle.text.proofs.say_fault.Tie as tie
 

@@ -3,7 +3,7 @@ use native.Mathlib.Omega.{arith}
 use borrow.Author.Needs.{needs}
 use Rattle.text.specs.Sentences.{textSays}
 use Rattle.text.proofs.Lengths.{wide-length, text-length}
-use Rattle.text.proofs.Writing.{put-then}
+use Rattle.numerals.proofs.Writing.{put-then}
 use Rattle.text.proofs.say_line.Statement.{statement}
 use Rattle.text.proofs.say_line.Tie as tie
 

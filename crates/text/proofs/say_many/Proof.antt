@@ -3,7 +3,7 @@ use native.Mathlib.Omega.{arith}
 use borrow.Author.Needs.{needs}
 use borrow.Author.Tests.{lt-ltb, le-ltb}
 use Rattle.text.specs.Sentences.{manySays}
-use Rattle.text.proofs.Writing.{wrote}
+use Rattle.numerals.proofs.Writing.{wrote}
 use Rattle.text.proofs.say_many.Statement.{statement}
 use Rattle.text.proofs.say_many.Tie as tie
 

@@ -8,12 +8,12 @@ use lib.IntN.{ℤ}
 use borrow.Author.Needs.{needs}
 use Rattle.plane.specs.declared.Point.{Point}
 use Rattle.plane.proofs.Bits.{back}
-use Rattle.numerals.specs.Bytes.{ascii}
+use Rattle.numerals.specs.Bytes.{ascii, Wrote}
 use Rattle.numerals.specs.Numerals.{decimal, signed}
-use Rattle.text.specs.Inner.{Wrote, worded, field}
+use Rattle.text.specs.Inner.{worded, field}
 use Rattle.text.specs.Sentences.{namesPoint}
 use Rattle.text.proofs.Lengths.{wide-length, names-length}
-use Rattle.text.proofs.Writing.{wrote-then, put-then, room-first, room-then}
+use Rattle.numerals.proofs.Writing.{wrote-then, put-then, room-first, room-then}
 use Rattle.text.proofs.say_point.Statement.{statement}
 use Rattle.text.proofs.say_point.Tie as tie
 

@@ -3,7 +3,7 @@ use native.Mathlib.Omega.{arith}
 use borrow.Author.Needs.{needs}
 use Rattle.text.specs.Sentences.{roomSays}
 use Rattle.text.proofs.Lengths.{wide-length, room-length}
-use Rattle.text.proofs.Writing.{put-then}
+use Rattle.numerals.proofs.Writing.{put-then}
 use Rattle.text.proofs.say_room.Statement.{statement}
 use Rattle.text.proofs.say_room.Tie as tie
 

@@ -4,9 +4,8 @@ use native.Mathlib.Omega.{arith}
 use mathlib.Core.Path.{_≡_, sym, ap, _∙_}
 use mathlib.Core.List.{List, [], _++_}
 use lib.ListN.{length, take, length-append, take-append-drop}
-use Rattle.numerals.specs.Bytes.{Put}
+use Rattle.numerals.specs.Bytes.{Put, Wrote}
 use Rattle.numerals.proofs.Putting.{put-room, pasted-length, pasted-then, pasted-front}
-use Rattle.text.specs.Inner.{Wrote}
 
 -- what is put where it has room is written
 pub wrote : {out : List ℕ} {at : ℕ} {bytes : List ℕ} {r : ℕ} {after : List ℕ} → Put out at bytes r after → at + length bytes ≤ length out → Wrote out at bytes r after

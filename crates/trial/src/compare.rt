@@ -1,199 +1,151 @@
 // Calls the library and the second implementation on the same numbers, and compares what they answer and leave.
 use crate::numbers::FAR;
+use crate::numbers::GIVEN;
 use crate::numbers::LENT;
+use crate::numbers::LIST;
+use crate::numbers::Numbers;
+use crate::numbers::PART;
+use crate::numbers::TALLY;
 use crate::numbers::UNTOUCHED;
-use crate::numbers::ZERO;
+use crate::numbers::USED;
+use crate::numbers::fill;
 use crate::numbers::get;
 use crate::numbers::holds;
 use crate::numbers::lend;
+use crate::numbers::lower;
 use crate::numbers::put;
-use crate::numbers::set;
 use crate::second;
+use crate::second::BACKWARD;
 use crate::second::Call;
 use crate::second::DONE;
+use crate::second::FORWARD;
+use crate::second::STEP;
 use crate::second::WRONG;
 use crate::second::answer_of;
-use crate::text::PLATE;
-use crate::text::say;
-use crate::text::say_numbers;
-use crate::text::say_result;
+use crate::text::say_counts;
 use panbuckle::ForwardAnswer;
 use panbuckle::StepAnswer;
 
-// ---- The entry points
-
-pub(crate) const FORWARD: usize = 0;
-
-pub(crate) const STEP: usize = 1;
-
-pub(crate) const BACKWARD: usize = 2;
-
-const NONE: usize = 3;
-
-pub(crate) fn call_of(entry: usize, family: u64, given: usize, work: usize, out: usize) -> Call {
+pub(crate) fn call_of(entry: usize, given: usize, work: usize, out: usize) -> Call {
     Call {
         entry: entry,
-        family: family,
         given: given,
         work: work,
         out: out,
     }
 }
 
-fn second_answer(
-    c: Call,
-    given: &mut [u64],
-    used: &mut [u64],
-    list: &mut [u64],
-    keys: &mut [u64],
-) -> ForwardAnswer {
-    let entry = c.entry;
-    match entry {
-        FORWARD => second::forward(c, given, used, list, keys),
-        STEP => second::step(c, given, list, keys),
-        _ => second::backward(c, given, list, keys),
-    }
-}
+// ---- One call
 
-// A step's answer. Its rectangle goes to the output.
-fn step_answer(r: StepAnswer, out: &mut [i32]) -> ForwardAnswer {
-    match r {
-        StepAnswer::Rectangle { rect, count } => {
-            set(out, 0, rect.x);
-            set(out, 1, rect.y);
-            set(out, 2, rect.w);
-            set(out, 3, rect.h);
-            answer_of(DONE, 0, count)
-        }
-        StepAnswer::Refused { answer, place } => answer_of(answer, place, 0),
-    }
-}
-
-fn library_answer(c: Call, input: &mut [i32], work: &mut [i32], out: &mut [i32]) -> ForwardAnswer {
-    let given = c.given;
-    let lent = c.work;
-    let room = c.out;
-    if c.entry == STEP {
-        if lent <= input.len() {
-            return step_answer(panbuckle::step(&mut input[0..lent], given), out);
-        }
-        return answer_of(WRONG, 0, 0);
-    }
-    if given <= input.len() {
-        if room <= out.len() {
-            if c.entry == BACKWARD {
-                let r = panbuckle::backward(&input[0..given], &mut out[0..room]);
-                return answer_of(r.answer, r.place, r.count);
-            }
-            if lent <= work.len() {
-                return panbuckle::forward(&input[0..given], &mut work[0..lent], &mut out[0..room]);
-            }
-        }
+// The library's answer, if the second implementation gave it too and both left the same.
+fn judged(got: ForwardAnswer, wanted: ForwardAnswer, arrays: bool) -> ForwardAnswer {
+    let answers = ((got.answer == wanted.answer) & (got.place == wanted.place))
+        & ((got.count == wanted.count) & ((got.area == wanted.area) & (got.edge == wanted.edge)));
+    if answers & arrays {
+        return got;
     }
     answer_of(WRONG, 0, 0)
 }
 
-// ---- One call
+// The longest arrays that are lent: points and forward's working array, lists, and a step's working array.
+const POINTS: usize = 8216;
 
-// An answer, and whether both implementations gave it and left the same.
-pub(crate) struct Compared {
-    pub(crate) answer: ForwardAnswer,
-    pub(crate) same: bool,
-}
+const RECTS: usize = 16403;
 
-fn judged(got: ForwardAnswer, wanted: ForwardAnswer, arrays: bool) -> Compared {
-    let answers = ((got.answer == wanted.answer) & (got.place == wanted.place))
-        & ((got.count == wanted.count) & ((got.area == wanted.area) & (got.edge == wanted.edge)));
-    Compared {
-        answer: got,
-        same: answers & arrays,
-    }
-}
+const STEPPED: usize = 164;
+
+// What is left of a length by one of these is within the array; a longer one is another call, and so a difference.
+const OVER_POINTS: usize = POINTS + 1;
+
+const OVER_RECTS: usize = RECTS + 1;
+
+const OVER_STEPPED: usize = STEPPED + 1;
+
+const OVER_PART: usize = PART + 1;
 
 // Whether the library left what the second implementation left.
-fn left_same(
-    given: &[u64],
-    used: &[u64],
-    list: &[u64],
-    input: &[i32],
-    work: &[i32],
-    out: &[i32],
-) -> bool {
-    holds(input, given) & (holds(work, used) & holds(out, list))
-}
-
-// Calls both on the same numbers, and compares the answers and all arrays.
-fn compare(
+fn left_by_forward(
     c: Call,
-    given: &mut [u64],
-    used: &mut [u64],
-    list: &mut [u64],
-    keys: &mut [u64],
-    input: &mut [i32],
-    work: &mut [i32],
-    out: &mut [i32],
-) -> Compared {
-    let wanted = second_answer(c, given, used, list, keys);
-    let got = library_answer(c, input, work, out);
-    judged(got, wanted, left_same(given, used, list, input, work, out))
+    input: &[i32; POINTS],
+    work: &[i32; POINTS],
+    out: &[i32; RECTS],
+    m: &Numbers,
+) -> bool {
+    holds(input, c.given, m, GIVEN) & (holds(work, c.work, m, USED) & holds(out, c.out, m, LIST))
 }
 
-// How many numbers a small array has, and an output for a small and for a large one.
-pub(crate) const SMALL: usize = 164;
+fn compare_forward(c: Call, m: &mut Numbers) -> ForwardAnswer {
+    let given = c.given % OVER_POINTS;
+    let lent = c.work % OVER_POINTS;
+    let room = c.out % OVER_RECTS;
+    let mut input: [i32; POINTS] = [LENT; POINTS];
+    let mut work: [i32; POINTS] = [LENT; POINTS];
+    let mut out: [i32; RECTS] = [LENT; RECTS];
+    lend(m, given, &mut input);
+    let wanted = second::forward(c, m);
+    let got = panbuckle::forward(&input[0..given], &mut work[0..lent], &mut out[0..room]);
+    judged(got, wanted, left_by_forward(c, &input, &work, &out, m))
+}
 
-pub(crate) const SMALL_ROOM: usize = 803;
+// Whether the list has this number at a place.
+fn is_at(m: &Numbers, i: usize, z: i32) -> bool {
+    lower(get(m, LIST, i)) == z
+}
 
-pub(crate) const LARGE_ROOM: usize = 16403;
+fn left_by_step(c: Call, work: &[i32; STEPPED], m: &Numbers) -> bool {
+    holds(work, c.work, m, GIVEN)
+}
 
-fn compare_small(c: Call, given: &mut [u64]) -> Compared {
-    let mut used: [u64; SMALL] = [UNTOUCHED; SMALL];
-    let mut list: [u64; SMALL_ROOM] = [UNTOUCHED; SMALL_ROOM];
-    let mut keys: [u64; SMALL] = [0; SMALL];
-    let mut input: [i32; SMALL] = [0; SMALL];
-    lend(given, &mut input);
-    let mut work: [i32; SMALL] = [LENT; SMALL];
-    let mut out: [i32; SMALL_ROOM] = [LENT; SMALL_ROOM];
-    let r = compare(
-        c,
-        given,
-        &mut used,
-        &mut list,
-        &mut keys,
-        &mut input,
-        &mut work,
-        &mut out,
-    );
-    if c.family == PLATE {
-        say_result(c, r.answer, given, &list);
+// The second implementation's rectangle is its list's only one.
+fn judged_step(got: StepAnswer, wanted: ForwardAnswer, m: &Numbers, arrays: bool) -> ForwardAnswer {
+    match got {
+        StepAnswer::Rectangle { rect, count } => {
+            let sides = is_at(m, 2, rect.w) & is_at(m, 3, rect.h);
+            let corner = is_at(m, 0, rect.x) & is_at(m, 1, rect.y);
+            judged(answer_of(DONE, 0, count), wanted, arrays & (corner & sides))
+        }
+        StepAnswer::Refused { answer, place } => {
+            judged(answer_of(answer, place, 0), wanted, arrays)
+        }
     }
-    r
 }
 
-fn compare_large(c: Call, given: &mut [u64]) -> Compared {
-    let mut used: [u64; 8216] = [UNTOUCHED; 8216];
-    let mut list: [u64; LARGE_ROOM] = [UNTOUCHED; LARGE_ROOM];
-    let mut keys: [u64; 8216] = [0; 8216];
-    let mut input: [i32; 65552] = [0; 65552];
-    lend(given, &mut input);
-    let mut work: [i32; 8216] = [LENT; 8216];
-    let mut out: [i32; LARGE_ROOM] = [LENT; LARGE_ROOM];
-    compare(
-        c,
-        given,
-        &mut used,
-        &mut list,
-        &mut keys,
-        &mut input,
-        &mut work,
-        &mut out,
-    )
+fn compare_step(c: Call, m: &mut Numbers) -> ForwardAnswer {
+    let lent = c.work % OVER_STEPPED;
+    let mut work: [i32; STEPPED] = [LENT; STEPPED];
+    lend(m, lent, &mut work);
+    let wanted = second::step(c, m);
+    let got = panbuckle::step(&mut work[0..lent], c.given);
+    let same = left_by_step(c, &work, m);
+    judged_step(got, wanted, m, same)
 }
 
-fn compare_both(c: Call, given: &mut [u64]) -> Compared {
-    if given.len() <= SMALL {
-        return compare_small(c, given);
+fn left_by_backward(c: Call, input: &[i32; PART], out: &[i32; RECTS], m: &Numbers) -> bool {
+    holds(input, c.given, m, GIVEN) & holds(out, c.out, m, LIST)
+}
+
+fn compare_backward(c: Call, m: &mut Numbers) -> ForwardAnswer {
+    let given = c.given % OVER_PART;
+    let room = c.out % OVER_RECTS;
+    let mut input: [i32; PART] = [LENT; PART];
+    let mut out: [i32; RECTS] = [LENT; RECTS];
+    lend(m, given, &mut input);
+    let wanted = second::backward(c, m);
+    let got = panbuckle::backward(&input[0..given], &mut out[0..room]);
+    let same = left_by_backward(c, &input, &out, m);
+    judged(answer_of(got.answer, got.place, got.count), wanted, same)
+}
+
+// Calls both on the same numbers, and compares the answers and all that is lent.
+fn compare(c: Call, m: &mut Numbers) -> ForwardAnswer {
+    fill(m, USED, c.work, UNTOUCHED);
+    fill(m, LIST, c.out, UNTOUCHED);
+    let entry = c.entry;
+    match entry {
+        FORWARD => compare_forward(c, m),
+        STEP => compare_step(c, m),
+        _ => compare_backward(c, m),
     }
-    compare_large(c, given)
 }
 
 // ---- What was compared
@@ -207,62 +159,77 @@ const RESULTS: usize = 2;
 
 const ANSWERS: usize = 3;
 
-pub(crate) const DIFFERENT: usize = 48;
+const DIFFERENT: usize = 48;
 
-pub(crate) fn add(tally: &mut [u64], entry: usize, what: usize, n: u64) {
-    let at = 16 * (entry % 16) + what % 64;
-    let before = get(tally, at);
-    put(tally, at, std::num::wrapping_add_u64(before, n));
+// Where it is counted.
+pub(crate) fn slot_of(entry: usize, what: usize) -> usize {
+    16 * (entry % 16) + what % 16
 }
 
-// Counts a difference, and tells of the first ones.
-fn note_difference(c: Call, given: &[u64], tally: &mut [u64]) {
-    add(tally, 0, DIFFERENT, 1);
-    if get(tally, DIFFERENT) < 10 {
-        let arrays = get(tally, 16 * (c.entry % 16) + ARRAYS);
-        let facts: [u64; 3] = [c.entry as u64, c.family, arrays];
-        say(b"DIFFERENT: entry point #, family #, array #:", &facts, 0);
-        say_numbers(given, 16);
-        say(b"\n", given, 0);
+fn answer_slot(entry: usize, answer: u32) -> usize {
+    if answer == WRONG {
+        return DIFFERENT;
     }
+    slot_of(entry, ANSWERS + (answer as usize) % 13)
 }
 
-// Compares one call, and counts it.
-pub(crate) fn compare_call(c: Call, given: &mut [u64], tally: &mut [u64]) -> ForwardAnswer {
-    let r = compare_both(c, given);
-    let answer = r.answer;
-    add(tally, c.entry, ANSWERS + (answer.answer as usize) % 13, 1);
-    add(tally, c.entry, RESULTS, answer.count as u64);
-    if !r.same {
-        note_difference(c, given, tally);
+pub(crate) fn add(m: &mut Numbers, at: usize, n: u64) {
+    let before = get(m, TALLY, at);
+    put(m, TALLY, at, std::num::wrapping_add_u64(before, n));
+}
+
+// Compares one call, and counts it. A difference is told at once, with the counts up to it.
+pub(crate) fn compare_call(c: Call, m: &mut Numbers) -> ForwardAnswer {
+    let r = compare(c, m);
+    add(m, answer_slot(c.entry, r.answer), 1);
+    add(m, slot_of(c.entry, RESULTS), r.count as u64);
+    if r.answer == WRONG {
+        say_counts(m);
     }
-    answer
+    r
 }
 
 // ---- Calls on one array
 
-// The call after this one: a step on the points that are left, or the same with just enough room, and then with one number too few.
-fn next_call(c: Call, r: ForwardAnswer, turn: usize) -> Call {
+// Steps go on until one is refused. The others are called again with just enough room, and then with one number too few.
+fn is_last(c: Call, r: ForwardAnswer, turn: usize) -> bool {
     if c.entry == STEP {
-        let entry = if r.answer == DONE { STEP } else { NONE };
-        return call_of(entry, c.family, r.count, c.work, c.out);
+        return r.answer != DONE;
     }
-    let goes_on = ((0 < r.count) & (r.count < 500)) & (turn < 2);
-    let entry = if goes_on { c.entry } else { NONE };
-    let n = r.count % FAR;
-    let enough = if c.entry == FORWARD { 4 * n } else { 2 * n };
-    let room = std::num::wrapping_sub_usize(enough, turn % 2);
-    call_of(entry, c.family, c.given, c.work, room)
+    (turn == 2) | ((r.count == 0) | (500 <= r.count))
 }
 
-// Compares on one array, call after call.
-pub(crate) fn compare_calls(c: Call, given: &mut [u64], tally: &mut [u64]) {
+// The call after this one.
+fn next_call(c: Call, r: ForwardAnswer, turn: usize) -> Call {
+    let short = turn % 2;
+    let n = r.count % FAR;
+    let entry = c.entry;
+    match entry {
+        FORWARD => call_of(
+            FORWARD,
+            c.given,
+            c.work,
+            std::num::wrapping_sub_usize(4 * n, short),
+        ),
+        STEP => call_of(STEP, n, c.work, c.out),
+        _ => call_of(
+            BACKWARD,
+            c.given,
+            c.work,
+            std::num::wrapping_sub_usize(2 * n, short),
+        ),
+    }
+}
+
+// Compares on one array, call after call. There are fewer than 10,000.
+pub(crate) fn compare_calls(c: Call, m: &mut Numbers) {
     let mut next = c;
     for turn in 0..10000 {
-        if next.entry == NONE {
+        let r = compare_call(next, m);
+        if is_last(next, r, turn) {
             return;
         }
-        next = next_call(next, compare_call(next, given, tally), turn);
+        next = next_call(next, r, turn);
     }
-    note_difference(c, given, tally);
+    add(m, DIFFERENT, 1);
 }

@@ -1,16 +1,17 @@
 // The families of arrays: how they are drawn, and how they are damaged.
-use crate::compare::BACKWARD;
-use crate::compare::FORWARD;
-use crate::compare::STEP;
 use crate::numbers::ALL;
 use crate::numbers::FAR;
+use crate::numbers::GIVEN;
 use crate::numbers::HIGHEST;
+use crate::numbers::LAST;
 use crate::numbers::LOWEST;
+use crate::numbers::Numbers;
 use crate::numbers::ZERO;
 use crate::numbers::get;
 use crate::numbers::put;
-use crate::second::Cut;
-use crate::second::cut_of;
+use crate::second::BACKWARD;
+use crate::second::FORWARD;
+use crate::second::Rect;
 use crate::second::key_at;
 use crate::second::key_of;
 use crate::second::put_key;
@@ -26,54 +27,66 @@ fn mixed(n: u64) -> u64 {
     b ^ (b << 17)
 }
 
-// The next number below a bound, by xorshift.
-pub(crate) fn draw(seed: &mut u64, below: u64) -> u64
+// The seed after some numbers are drawn, by xorshift.
+pub(crate) fn ahead(seed: u64, count: usize) -> u64 {
+    let mut next = seed;
+    for i in 0..count {
+        next = mixed(next);
+    }
+    next
+}
+
+// The number that is drawn as the nth, below a bound.
+pub(crate) fn draw(seed: u64, nth: usize, below: usize) -> usize
     ensures { λ r. ⌜ r < 4294967296 ⌝ }
 {
-    let next = mixed(*seed);
-    *seed = next;
-    let n = if below == 0 { 0 } else { next / ALL % below };
-    n % ALL
+    let chance = (ahead(seed, nth) / ALL) as usize;
+    if below == 0 {
+        return 0;
+    }
+    chance % below % 4294967296
 }
 
 // ---- Rectangles on a grid
 
 // Random ones, which cross, nest and touch; one in each cell of a coarse grid; unit squares that touch at corners; a spine with teeth on
 // it; bars that cross; rings; bars that start lower the further right they stand; and a diamond of bars.
-const CROSSING: u64 = 0;
+const CROSSING: usize = 0;
 
-const CELLS: u64 = 1;
+const CELLS: usize = 1;
 
-const CHECKERBOARD: u64 = 2;
+const CHECKERBOARD: usize = 2;
 
-const COMB: u64 = 3;
+const COMB: usize = 3;
 
-const BARS: u64 = 4;
+const BARS: usize = 4;
 
-const RINGS: u64 = 5;
+const RINGS: usize = 5;
 
-const STAIRS: u64 = 6;
+const STAIRS: usize = 6;
 
-const DIAMOND: u64 = 7;
+const DIAMOND: usize = 7;
 
 // Random points, which are seldom accepted.
-const LOOSE: u64 = 8;
+const LOOSE: usize = 8;
 
+// The seed is for what is drawn next.
 pub(crate) struct Shape {
     pub(crate) entry: usize,
-    pub(crate) kind: u64,
-    pub(crate) boxes: u64,
-    grid: u64,
-    span: u64,
-    scale: u64,
-    pub(crate) damages: u64,
+    kind: usize,
+    boxes: usize,
+    grid: usize,
+    span: usize,
+    scale: usize,
+    damages: usize,
+    seed: u64,
 }
 
 // A coordinate for a line of the grid: near zero, at the low end of the range, over all of it, at the high end, or anywhere.
-fn coordinate(scale: u64, line: u64) -> u64 {
-    let g = line % ALL;
+fn coordinate(scale: usize, line: usize) -> u64 {
+    let g = line as u64 % ALL;
     match scale {
-        0 => ZERO - 7 + g,
+        0 => NEAR_ZERO + g,
         1 => LOWEST + g,
         2 => LOWEST + 100_000_000 * g,
         3 => std::num::wrapping_sub_u64(HIGHEST, g),
@@ -81,244 +94,286 @@ fn coordinate(scale: u64, line: u64) -> u64 {
     }
 }
 
+const NEAR_ZERO: u64 = ZERO - 7;
+
 // The sides are one longer than given.
-fn framed(scale: u64, left: u64, bottom: u64, width: u64, height: u64) -> Cut {
-    let right = left % ALL + width % ALL + 1;
-    let top = bottom % ALL + height % ALL + 1;
-    let row = coordinate(scale, bottom);
-    cut_of(
-        key_of(row, coordinate(scale, left)),
-        key_of(row, coordinate(scale, right)),
-        coordinate(scale, top),
-    )
+fn framed(scale: usize, left: usize, bottom: usize, width: usize, height: usize) -> Rect {
+    let right = std::num::wrapping_add_usize(left, width);
+    let top = std::num::wrapping_add_usize(bottom, height);
+    Rect {
+        x: coordinate(scale, left),
+        y: coordinate(scale, bottom),
+        right: coordinate(scale, std::num::wrapping_add_usize(right, 1)),
+        top: coordinate(scale, std::num::wrapping_add_usize(top, 1)),
+    }
 }
 
-fn box_of(s: Shape, number: u64, seed: &mut u64) -> Cut {
-    let i = number % ALL;
-    let all = s.boxes % ALL;
-    let rest = std::num::wrapping_sub_u64(all, i) % ALL;
+// Bars that stand and bars that lie, in turn.
+fn bar(scale: usize, i: usize, length: usize) -> Rect {
+    let at = 2 * (i % FAR) + 1;
+    if i % 2 == 0 {
+        return framed(scale, at, 0, 0, length);
+    }
+    framed(scale, 0, at, length, 0)
+}
+
+// A box of a kind that has nothing of chance.
+fn fixed_box(s: Shape, number: usize) -> Rect {
+    let i = number % FAR;
+    let all = s.boxes % FAR;
+    let rest = std::num::wrapping_sub_usize(all, i) % FAR;
+    let twice = 2 * i;
+    let twice_rest = 2 * rest;
     let scale = s.scale;
     let kind = s.kind;
     match kind {
-        CELLS => framed(
+        CHECKERBOARD => framed(scale, 2 * (i % 5) + i / 5 % 2, i / 5, 0, 0),
+        COMB => framed(scale, 0, 0, 2 * all, 0),
+        BARS => bar(scale, i, 2 * all),
+        RINGS => framed(scale, i, i, twice_rest, twice_rest),
+        STAIRS => framed(scale, twice, rest, 0, all),
+        _ => framed(scale, rest, i, twice, twice_rest),
+    }
+}
+
+// How many numbers are drawn for a box. The first of a comb is its spine.
+fn draws_of(kind: usize, i: usize) -> usize {
+    match kind {
+        CELLS => 2,
+        COMB => (0 < i) as usize,
+        CHECKERBOARD | BARS | RINGS | STAIRS | DIAMOND => 0,
+        _ => 4,
+    }
+}
+
+fn box_of(s: Shape, number: usize, draws: usize, seed: u64) -> Rect {
+    let i = number % FAR;
+    let scale = s.scale;
+    match draws {
+        0 => fixed_box(s, i),
+        1 => framed(scale, 2 * i, 1, 0, draw(seed, 1, s.span)),
+        2 => framed(
             scale,
             8 * (i % 5),
             8 * (i / 5),
-            draw(seed, 7),
-            draw(seed, 7),
+            draw(seed, 1, 7),
+            draw(seed, 2, 7),
         ),
-        CHECKERBOARD => framed(scale, 2 * (i % 5) + i / 5 % 2, i / 5, 0, 0),
-        COMB => {
-            if i == 0 {
-                framed(scale, 0, 0, 2 * all, 0)
-            } else {
-                framed(scale, 2 * i, 1, 0, draw(seed, s.span))
-            }
-        }
-        BARS => {
-            if i % 2 == 0 {
-                framed(scale, 2 * i + 1, 0, 0, 2 * all)
-            } else {
-                framed(scale, 0, 2 * i + 1, 2 * all, 0)
-            }
-        }
-        RINGS => framed(scale, i, i, 2 * rest, 2 * rest),
-        STAIRS => framed(scale, 2 * i, rest, 0, all),
-        DIAMOND => framed(scale, rest, i, 2 * i, 2 * rest),
         _ => framed(
             scale,
-            draw(seed, s.grid),
-            draw(seed, s.grid),
-            draw(seed, s.span),
-            draw(seed, s.span),
+            draw(seed, 1, s.grid),
+            draw(seed, 2, s.grid),
+            draw(seed, 3, s.span),
+            draw(seed, 4, s.span),
         ),
     }
+}
+
+// ---- An array
+
+// How much of an array is drawn, and the seed for what is drawn next.
+pub(crate) struct Drawn {
+    pub(crate) count: usize,
+    pub(crate) seed: u64,
 }
 
 // Adds a rectangle to a list, or its corners to an array of points. Gives the new count.
-fn add_box(s: Shape, given: &mut [u64], n: usize, c: Cut) -> usize {
+fn add_rect(s: Shape, m: &mut Numbers, n: usize, r: Rect) -> usize {
     if s.entry == BACKWARD {
-        put_rect(given, n, c);
+        put_rect(m, GIVEN, n, r);
         return std::num::wrapping_add_usize(n, 1);
     }
     if s.kind == LOOSE {
-        put_key(given, n, c.k);
+        put_key(m, GIVEN, n, key_of(r.y, r.x));
         return std::num::wrapping_add_usize(n, 1);
     }
-    toggle_corners_by_place(given, n, c)
+    toggle_corners_by_place(m, n, r)
 }
 
-// Draws an array. Gives how many points or rectangles it has.
-fn draw_array(s: Shape, given: &mut [u64], seed: &mut u64) -> usize {
-    let mut n = 0;
+// Draws an array of points or rectangles.
+fn draw_array(s: Shape, m: &mut Numbers) -> Drawn {
+    let mut count = 0;
+    let mut seed = s.seed;
     for i in 0..s.boxes {
-        n = add_box(s, given, n, box_of(s, i, seed));
+        let draws = draws_of(s.kind, i);
+        count = add_rect(s, m, count, box_of(s, i, draws, seed));
+        seed = ahead(seed, draws);
     }
-    n
+    Drawn {
+        count: count,
+        seed: seed,
+    }
 }
 
 // ---- Damage
 
-// What becomes of a number: that of another point, the next, or a bad one.
-fn damaged_number(what: u64, number: u64, another: u64, i: usize) -> u64 {
-    let bad: [u64; 8] = [
-        0,
-        ALL - 1,
-        LOWEST - 1,
-        HIGHEST + 1,
-        LOWEST,
-        HIGHEST,
-        ZERO,
-        ZERO - 1,
-    ];
+const TOO_LOW: u64 = LOWEST - 1;
+
+const TOO_HIGH: u64 = HIGHEST + 1;
+
+const MINUS_ONE: u64 = ZERO - 1;
+
+// What becomes of the number at a place: a number of another point, the next, or a bad one.
+fn damaged_number(what: usize, number: u64, i: usize, another: u64, j: usize) -> u64 {
+    let bad: [u64; 8] = [0, LAST, TOO_LOW, TOO_HIGH, LOWEST, HIGHEST, ZERO, MINUS_ONE];
     match what {
-        0 => another,
+        0 => {
+            if i % 2 == 0 {
+                another % ALL
+            } else {
+                another / ALL
+            }
+        }
         1 => (number % ALL + 1) % ALL,
-        2 => get(&bad, i % 8),
+        2 => bad[j % 8],
         _ => number,
     }
 }
 
-// Damages an array: a number, or a point is repeated after the last, or a number or a point is dropped there. Gives the new length.
-fn damage(given: &mut [u64], length: usize, seed: &mut u64) -> usize {
-    if length < 2 {
-        return length;
-    }
-    let what = draw(seed, 6);
-    let i = draw(seed, length as u64) as usize;
-    let j = draw(seed, length as u64) as usize;
-    let k = key_at(given, j / 2, false);
-    let another = if i % 2 == 0 { k % ALL } else { k / ALL };
-    let number = damaged_number(what, get(given, i), another, j);
-    put(given, i, number);
-    put_key(given, length / 2, k);
+// How many numbers there are after a damage: a point is repeated after the last, or a number or a point is dropped there.
+fn damaged_length(what: usize, length: usize) -> usize {
     match what {
         3 => std::num::wrapping_add_usize(length, 2),
-        4 => length - 1,
-        5 => length - 2,
+        4 => std::num::wrapping_sub_usize(length, 1),
+        5 => std::num::wrapping_sub_usize(length, 2),
         _ => length,
     }
 }
 
-fn damage_array(given: &mut [u64], size: usize, damages: u64, seed: &mut u64) -> usize {
-    let mut left = size;
+// Damages an array of two numbers or more.
+fn damage(m: &mut Numbers, d: Drawn) -> Drawn {
+    if d.count < 2 {
+        return d;
+    }
+    let what = draw(d.seed, 1, 6);
+    let i = draw(d.seed, 2, d.count);
+    let j = draw(d.seed, 3, d.count);
+    let k = key_at(m, j / 2, false);
+    let number = get(m, GIVEN, i);
+    put(m, GIVEN, i, damaged_number(what, number, i, k, j));
+    put_key(m, GIVEN, d.count / 2, k);
+    Drawn {
+        count: damaged_length(what, d.count),
+        seed: ahead(d.seed, 3),
+    }
+}
+
+fn damage_array(m: &mut Numbers, drawn: Drawn, damages: usize) -> Drawn {
+    let mut d = drawn;
     for i in 0..damages {
-        left = damage(given, left, seed);
+        d = damage(m, d);
     }
-    left
+    d
 }
 
-fn shuffle(points: &mut [u64], n: usize, seed: &mut u64) {
+// Shuffles points. Gives the seed for what is drawn next.
+fn shuffle(m: &mut Numbers, n: usize, first: u64) -> u64 {
+    let mut seed = first;
     for i in 0..n {
-        let j = draw(seed, n as u64) as usize;
-        let k = key_at(points, i, false);
-        let other = key_at(points, j, false);
-        put_key(points, i, other);
-        put_key(points, j, k);
+        let j = draw(seed, 1, n);
+        let k = key_at(m, i, false);
+        let other = key_at(m, j, false);
+        put_key(m, GIVEN, i, other);
+        put_key(m, GIVEN, j, k);
+        seed = mixed(seed);
+    }
+    seed
+}
+
+// An array of so many points or rectangles, as numbers.
+fn in_numbers(s: Shape, d: Drawn) -> Drawn {
+    let n = d.count % FAR;
+    let count = if s.entry == BACKWARD { 4 * n } else { 2 * n };
+    Drawn {
+        count: count,
+        seed: d.seed,
     }
 }
 
-// Draws an array, damages it and shuffles points. Gives its length.
-pub(crate) fn draw_damaged(s: Shape, given: &mut [u64], seed: &mut u64) -> usize {
-    let n = draw_array(s, given, seed) % FAR;
-    let drawn = if s.entry == BACKWARD { 4 * n } else { 2 * n };
-    let length = damage_array(given, drawn, s.damages, seed);
-    shuffle(
-        given,
-        if s.entry == BACKWARD { 0 } else { length / 2 },
-        seed,
-    );
-    length
+// How many points there are to shuffle.
+fn points_of(s: Shape, d: Drawn) -> usize {
+    if s.entry == BACKWARD {
+        return 0;
+    }
+    d.count / 2
+}
+
+// Draws an array, damages it and shuffles points. Gives how many numbers it has.
+pub(crate) fn draw_damaged(s: Shape, m: &mut Numbers) -> Drawn {
+    let drawn = draw_array(s, m);
+    let d = damage_array(m, in_numbers(s, drawn), s.damages);
+    Drawn {
+        count: d.count,
+        seed: shuffle(m, points_of(s, d), d.seed),
+    }
 }
 
 // ---- The families
 
-fn shape_of(
-    entry: usize,
-    kind: u64,
-    boxes: u64,
-    grid: u64,
-    span: u64,
-    scale: u64,
-    damages: u64,
-) -> Shape {
+// Five of eight go forward, one is stepped, and two go back. Five of eight are not damaged, two are once, and one is three times.
+pub(crate) fn small_shape(number: usize, seed: u64) -> Shape {
+    let turn = number % 8;
+    let entry = turn / 5 + turn / 6;
+    let scales = if entry == BACKWARD { 3 } else { 5 };
+    let grid = 3 + draw(seed, 3, 10);
+    let chance = draw(seed, 6, 8);
     Shape {
         entry: entry,
-        kind: kind,
-        boxes: boxes,
+        kind: draw(seed, 1, 14),
+        boxes: draw(seed, 2, 14),
         grid: grid,
-        span: span,
-        scale: scale,
-        damages: damages,
+        span: 1 + draw(seed, 4, grid),
+        scale: draw(seed, 5, scales),
+        damages: chance / 5 + 2 * (chance / 7),
+        seed: ahead(seed, 6),
     }
 }
 
-// Five of eight go forward, one is stepped, and two go back.
-pub(crate) fn small_shape(number: u64, seed: &mut u64) -> Shape {
-    let damages: [u64; 8] = [0, 0, 0, 0, 0, 1, 1, 3];
-    let turn = number % 8;
-    let entry = if turn < 5 {
-        FORWARD
-    } else {
-        if turn == 5 { STEP } else { BACKWARD }
-    };
-    let kind = draw(seed, 14);
-    let boxes = draw(seed, 14);
-    let grid = 3 + draw(seed, 10);
-    let span = 1 + draw(seed, grid);
-    let scale = draw(seed, if entry == BACKWARD { 3 } else { 5 });
-    shape_of(
-        entry,
-        kind,
-        boxes,
-        grid,
-        span,
-        scale,
-        get(&damages, draw(seed, 8) as usize),
-    )
+// Arrays of up to 4,096 points and of 16,384 rectangles, and some just over these: boxes, two digits for their span, and one for their kind.
+fn largest_shape(i: usize, seed: u64) -> Shape {
+    let shapes: [usize; 13] = [
+        1024_00_1,
+        1000_30_3,
+        1020_05_0,
+        300_00_6,
+        70_00_4,
+        400_00_5,
+        70_00_7,
+        1025_00_1,
+        4097_00_8,
+        16384_30_0,
+        16385_30_0,
+        3000_10_0,
+        1500_00_1,
+    ];
+    let shape = shapes[i % 13];
+    let entry = if i < 9 { FORWARD } else { BACKWARD };
+    Shape {
+        entry: entry,
+        kind: shape % 10,
+        boxes: shape / 1000,
+        grid: 60,
+        span: shape / 10 % 100,
+        scale: 0,
+        damages: 0,
+        seed: seed,
+    }
 }
 
-// Arrays of up to 4,096 points and of 16,384 rectangles, some just over these, and then some of middling length.
-pub(crate) fn large_shape(number: u64, seed: &mut u64) -> Shape {
-    let kinds: [u64; 13] = [1, 3, 0, 6, 4, 5, 7, 1, 8, 0, 0, 0, 1];
-    let boxes: [u64; 13] = [
-        1024,
-        1000,
-        1020,
-        300,
-        70,
-        400,
-        70,
-        1025,
-        4097,
-        16384,
-        16385,
-        3000,
-        1500,
-    ];
-    let spans: [u64; 13] = [0, 30, 5, 0, 0, 0, 0, 0, 0, 30, 30, 10, 0];
-    let i = number as usize;
+// The largest ones, and then some of middling length.
+pub(crate) fn large_shape(i: usize, seed: u64) -> Shape {
     if i < 13 {
-        let entry = if i < 9 { FORWARD } else { BACKWARD };
-        return shape_of(
-            entry,
-            get(&kinds, i),
-            get(&boxes, i),
-            60,
-            get(&spans, i),
-            0,
-            0,
-        );
+        return largest_shape(i, seed);
     }
     let entry = if i % 4 == 0 { BACKWARD } else { FORWARD };
-    let many = 30 + draw(seed, 60);
-    shape_of(
-        entry,
-        number % 9,
-        many,
-        40,
-        1 + draw(seed, 40),
-        0,
-        number % 2,
-    )
+    Shape {
+        entry: entry,
+        kind: i % 9,
+        boxes: 30 + draw(seed, 1, 60),
+        grid: 40,
+        span: 1 + draw(seed, 2, 40),
+        scale: 0,
+        damages: i % 2,
+        seed: ahead(seed, 2),
+    }
 }

@@ -7,10 +7,10 @@ use Rattle.trial.proofs.numbers.lend.Statement.{statement}
 use Rattle.trial.proofs.numbers.lend.Tie as tie
 
 abbrev Inv-loop : tie.InvT-loop
-Inv-loop from to₀ i₀ i-end to i = length to ≡ length to₀
+Inv-loop m count to₀ i₀ to i = length to ≡ length to₀
 
 abbrev μ-loop : tie.MeasureT-loop
-μ-loop from to₀ i₀ i-end to i = i-end - i
+μ-loop m count to₀ i₀ to i = count - i
 
 pub lend-spec : {M : Type 1} → statement M
 lend-spec =

@@ -5,10 +5,10 @@ use Rattle.trial.proofs.text.say_numbers.Statement.{statement}
 use Rattle.trial.proofs.text.say_numbers.Tie as tie
 
 abbrev Inv-loop : tie.InvT-loop
-Inv-loop numbers n i₀ i = Unit
+Inv-loop m part n i₀ i = Unit
 
 abbrev μ-loop : tie.MeasureT-loop
-μ-loop numbers n i₀ i = n - i
+μ-loop m part n i₀ i = n - i
 
 pub say-numbers-spec : {M : Type 1} → statement M
 say-numbers-spec =

@@ -1,0 +1,98 @@
+// The C face of the library: the three entry points on plain numbers and arrays, declared for C in include/panbuckle.h.
+// An array that is lent passes as a pointer and a length; one of a fixed size passes as a pointer.
+ghost use mathlib.Core.Path.{_≡_};
+ghost use mathlib.Core.List.{[], _∷_};
+ghost use Rattle.panbuckle_c.specs.Face.{forwardNumbers, backwardNumbers, ForwardCalled, BackwardCalled, StepCalled};
+use panbuckle::BackwardAnswer;
+use panbuckle::DONE;
+use panbuckle::ForwardAnswer;
+use panbuckle::Rect;
+use panbuckle::StepAnswer;
+
+// ---- The numbers of an answer
+
+fn put_forward(result: &mut [u64; 5], r: ForwardAnswer)
+    ensures { λ _. ⌜ now (result .exit) ≡ forwardNumbers r ⌝ }
+{
+    *result = [r.answer as u64, r.place, r.count as u64, r.area, r.edge];
+}
+
+fn put_backward(result: &mut [u64; 3], r: BackwardAnswer)
+    ensures { λ _. ⌜ now (result .exit) ≡ backwardNumbers r ⌝ }
+{
+    *result = [r.answer as u64, r.place, r.count as u64];
+}
+
+fn put_rect(rect: &mut [i32; 4], r: Rect)
+    ensures { λ _. ⌜ now (rect .exit) ≡ r .x ∷ r .y ∷ r .w ∷ r .h ∷ [] ⌝ }
+{
+    let x = r.x;
+    let y = r.y;
+    let w = r.w;
+    let h = r.h;
+    *rect = [x, y, w, h];
+}
+
+fn put_step(result: &mut [u64; 3], answer: u32, place: u64, count: usize)
+    ensures { λ _. ⌜ now (result .exit) ≡ answer ∷ place ∷ count ∷ [] ⌝ }
+{
+    *result = [answer as u64, place, count as u64];
+}
+
+// ---- The functions for C
+
+// The rectangles of the points. Gives the answer's number; the result's numbers are answer, place, count, area, edge.
+#[no_mangle]
+pub extern "C" fn panbuckle_forward(
+    points: &[i32],
+    work: &mut [i32],
+    rects: &mut [i32],
+    result: &mut [u64; 5],
+) -> u32
+    ensures { λ r. ⌜ ForwardCalled (now (points .entry)) (now (work .entry)) (now (rects .entry)) r (now (work .exit)) (now (rects .exit)) (now (result .exit)) ⌝ }
+{
+    let r = panbuckle::forward(points, work, rects);
+    put_forward(result, r);
+    r.answer
+}
+
+// One rectangle of the `count` points in `work`. Gives the answer's number; the result's numbers are answer, place and the count of
+// the points that are left, and the rectangle's are X, Y, W, H.
+#[no_mangle]
+pub extern "C" fn panbuckle_step(
+    work: &mut [i32],
+    count: usize,
+    rect: &mut [i32; 4],
+    result: &mut [u64; 3],
+) -> u32
+    ensures { λ r. ⌜ StepCalled (now (work .entry)) count (now (rect .entry)) r (now (work .exit)) (now (rect .exit)) (now (result .exit)) ⌝ }
+{
+    match panbuckle::step(work, count) {
+        StepAnswer::Rectangle {
+            rect: made,
+            count: left,
+        } => {
+            put_rect(rect, made);
+            put_step(result, DONE, 0, left);
+            DONE
+        }
+        StepAnswer::Refused { answer, place } => {
+            put_step(result, answer, place, 0);
+            answer
+        }
+    }
+}
+
+// The points of the rectangles. Gives the answer's number; the result's numbers are answer, place, count.
+#[no_mangle]
+pub extern "C" fn panbuckle_backward(
+    rects: &[i32],
+    points: &mut [i32],
+    result: &mut [u64; 3],
+) -> u32
+    ensures { λ r. ⌜ BackwardCalled (now (rects .entry)) (now (points .entry)) r (now (points .exit)) (now (result .exit)) ⌝ }
+{
+    let r = panbuckle::backward(rects, points);
+    put_backward(result, r);
+    r.answer
+}

@@ -1,0 +1,87 @@
+/* Reads points from standard input, "x y" on each line, and prints their rectangles as `fracture` does. It uses the whole C face:
+ * forward makes the list, a step after the other makes it again, and backward of the list gives the points back. */
+#include "panbuckle.h"
+
+#include <inttypes.h>
+#include <stdio.h>
+#include <string.h>
+
+enum { MOST_RECTS = 3200 };
+
+static int32_t points[2 * PANBUCKLE_MOST_POINTS];
+static int32_t work[2 * PANBUCKLE_MOST_POINTS];
+static int32_t list[4 * MOST_RECTS];
+
+/* How many points there are, or -1 if what is read is no list of at most 4096 points. */
+static int read_points(void)
+{
+    int n = 0;
+    int32_t x, y;
+    for (;;) {
+        int got = scanf("%" SCNd32 "%" SCNd32, &x, &y);
+        if (got == EOF)
+            return n;
+        if (got != 2 || n == PANBUCKLE_MOST_POINTS)
+            return -1;
+        points[2 * n] = x;
+        points[2 * n + 1] = y;
+        n++;
+    }
+}
+
+/* Whether steps, from the points on until none is left, give the list's rectangles one after another. */
+static int steps_agree(size_t n, uint64_t rects)
+{
+    int32_t rect[4];
+    uint64_t result[3];
+    size_t left = n;
+    memcpy(work, points, n * sizeof points[0] * 2);
+    for (uint64_t i = 0; i < rects; i++) {
+        if (panbuckle_step(work, 2 * n, left, rect, result) != PANBUCKLE_DONE)
+            return 0;
+        if (memcmp(rect, list + 4 * i, sizeof rect) != 0)
+            return 0;
+        left = result[PANBUCKLE_COUNT];
+    }
+    return panbuckle_step(work, 2 * n, left, rect, result) == PANBUCKLE_DRAINED;
+}
+
+/* Whether each of the n points is one of those that backward gives of the list, and there are no others. */
+static int backward_agrees(size_t n, uint64_t rects)
+{
+    static int32_t back[2 * PANBUCKLE_MOST_POINTS];
+    uint64_t result[3];
+    if (panbuckle_backward(list, 4 * rects, back, 2 * PANBUCKLE_MOST_POINTS, result) != PANBUCKLE_DONE || result[PANBUCKLE_COUNT] != n)
+        return 0;
+    for (size_t i = 0; i < n; i++) {
+        size_t j = 0;
+        while (j < n && (back[2 * j] != points[2 * i] || back[2 * j + 1] != points[2 * i + 1]))
+            j++;
+        if (j == n)
+            return 0;
+    }
+    return 1;
+}
+
+int main(void)
+{
+    uint64_t result[5];
+    int n = read_points();
+    if (n < 0) {
+        fputs("plate: the input is not a list of at most 4096 points\n", stderr);
+        return 2;
+    }
+    if (panbuckle_forward(points, 2 * (size_t)n, work, 2 * (size_t)n, list, 4 * MOST_RECTS, result) != PANBUCKLE_DONE) {
+        printf("refused %" PRIu64 " place %" PRIu64 "\n", result[PANBUCKLE_ANSWER], result[PANBUCKLE_PLACE]);
+        return 1;
+    }
+    uint64_t count = result[PANBUCKLE_COUNT];
+    printf("rects %" PRIu64 " area %" PRIu64 " edge %" PRIu64 "\n", count, result[PANBUCKLE_AREA], result[PANBUCKLE_EDGE]);
+    for (uint64_t i = 0; i < count; i++)
+        printf("%" PRId32 " %" PRId32 " %" PRId32 " %" PRId32 "\n", list[4 * i], list[4 * i + 1], list[4 * i + 2], list[4 * i + 3]);
+    if (!steps_agree((size_t)n, count) || !backward_agrees((size_t)n, count)) {
+        fputs("plate: the steps or the way back disagree with the list\n", stderr);
+        return 2;
+    }
+    return 0;
+}

@@ -1,0 +1,32 @@
+//! One plate, two bars that cross: forward, a step at a time, and back.
+
+mod panbuckle;
+
+use panbuckle::{backward, forward, step, Refused, Sums};
+
+fn main() {
+    let points = [3, 1, 5, 1, 3, 5, 5, 5, 0, 2, 10, 2, 0, 4, 10, 4];
+    let (mut work, mut rects) = ([0; 16], [0; 16]);
+    assert_eq!(forward(&points, &mut work, &mut rects), Ok(Sums { count: 4, area: 20, edge: 36 }));
+    assert_eq!(rects, [3, 1, 2, 1, 0, 2, 3, 2, 5, 2, 5, 2, 3, 4, 2, 1]);
+    assert_eq!(work, [0; 16]);
+
+    let (mut stepped, mut left) = (points, 8);
+    for rect in rects.chunks(4) {
+        let (made, more) = step(&mut stepped, left).unwrap();
+        assert_eq!(made, rect);
+        left = more;
+    }
+    assert_eq!(step(&mut stepped, left), Err(Refused { number: 10, place: 0 }));
+
+    let mut corners = [7; 18];
+    assert_eq!(backward(&rects, &mut corners), Ok(8));
+    assert_eq!(corners, [3, 1, 5, 1, 0, 2, 10, 2, 0, 4, 10, 4, 3, 5, 5, 5, 7, 7]);
+
+    let mut room = [7; 12];
+    assert_eq!(forward(&points, &mut work, &mut room), Err(Refused { number: 8, place: 4 }));
+    assert_eq!(room, [7; 12]);
+    assert_eq!(forward(&points[..15], &mut work, &mut rects), Err(Refused { number: 1, place: 0 }));
+    assert_eq!(forward(&[], &mut [], &mut []), Ok(Sums { count: 0, area: 0, edge: 0 }));
+    println!("{:?}", rects);
+}

@@ -1,0 +1,133 @@
+/* Calls the C face so that it gives every answer, and checks the numbers that come back and every array that is lent: each is full of 7s before.
+ * Prints a line for each call that went wrong, and last how many calls there were. */
+#include "panbuckle.h"
+
+#include <stdio.h>
+#include <string.h>
+
+enum { LENT = 40, SEVEN = 7 };
+
+static int32_t work[LENT], out[LENT], rect[4];
+static uint64_t result[5];
+static int calls;
+
+static void lend(void)
+{
+    for (int i = 0; i < LENT; i++)
+        work[i] = out[i] = SEVEN;
+    for (int i = 0; i < 4; i++)
+        rect[i] = SEVEN;
+    for (int i = 0; i < 5; i++)
+        result[i] = SEVEN;
+}
+
+/* Whether an array begins with these numbers and is all 7s after them. */
+static int begins(const int32_t *array, const int32_t *numbers, size_t length)
+{
+    for (size_t i = 0; i < LENT; i++)
+        if (array[i] != (i < length ? numbers[i] : SEVEN))
+            return 0;
+    return 1;
+}
+
+static int untouched(const int32_t *array)
+{
+    return begins(array, NULL, 0);
+}
+
+/* Judges a call by the number that it returned and by what else must hold. */
+static void judge(const char *name, uint32_t returned, uint32_t number, uint64_t place, uint64_t count, int rest)
+{
+    int numbers = result[PANBUCKLE_ANSWER] == number && result[PANBUCKLE_PLACE] == place && result[PANBUCKLE_COUNT] == count;
+    calls++;
+    if (returned != number || !numbers || !rest)
+        printf("%s: returned %u, answer %u, place %u, count %u%s\n", name, (unsigned)returned, (unsigned)result[PANBUCKLE_ANSWER],
+               (unsigned)result[PANBUCKLE_PLACE], (unsigned)result[PANBUCKLE_COUNT], rest ? "" : ", and an array is not as it should be");
+}
+
+static void forward_refused(const char *name, const int32_t *points, size_t length, size_t work_length, uint32_t number, uint64_t place)
+{
+    lend();
+    uint32_t returned = panbuckle_forward(points, length, work, work_length, out, LENT, result);
+    judge(name, returned, number, place, 0, untouched(work) && untouched(out) && result[PANBUCKLE_AREA] == 0 && result[PANBUCKLE_EDGE] == 0);
+}
+
+static void backward_refused(const char *name, const int32_t *rects, size_t length, size_t room, uint32_t number, uint64_t place)
+{
+    lend();
+    uint32_t returned = panbuckle_backward(rects, length, out, room, result);
+    judge(name, returned, number, place, 0, untouched(out) && result[3] == SEVEN && result[4] == SEVEN);
+}
+
+static void step_refused(const char *name, size_t work_length, size_t count, uint32_t number, uint64_t place)
+{
+    static int32_t before[LENT];
+    memcpy(before, work, sizeof work);
+    uint32_t returned = panbuckle_step(work, work_length, count, rect, result);
+    judge(name, returned, number, place, 0, memcmp(before, work, sizeof work) == 0 && rect[0] == SEVEN && rect[3] == SEVEN);
+}
+
+static const int32_t zeros[LENT];
+static const int32_t square[8] = {0, 0, 1, 0, 0, 1, 1, 1};
+static const int32_t ring[16] = {0, 0, 4, 0, 0, 4, 4, 4, 1, 1, 3, 1, 1, 3, 3, 3};
+static const int32_t ring_list[16] = {0, 0, 4, 1, 0, 1, 1, 3, 3, 1, 1, 2, 1, 3, 3, 1};
+
+static void forward_calls(void)
+{
+    static const int32_t far[8] = {0, 0, 1, 0, 0, 1000000001, 1, 1000000001};
+    static const int32_t twice[16] = {0, 0, 1, 0, 0, 1, 1, 1, 1, 1, 2, 1, 1, 2, 2, 2};
+    static const int32_t row[6] = {0, 0, 1, 0, 0, 1};
+    static const int32_t column[8] = {0, 0, 1, 0, 0, 1, 2, 1};
+    static int32_t many[2 * (PANBUCKLE_MOST_POINTS + 1)];
+    forward_refused("forward LENGTH", square, 7, LENT, PANBUCKLE_LENGTH, 0);
+    forward_refused("forward MANY", many, sizeof many / sizeof many[0], LENT, PANBUCKLE_MANY, 0);
+    forward_refused("forward WORK", square, 8, 7, PANBUCKLE_WORK, 0);
+    forward_refused("forward RANGE", far, 8, LENT, PANBUCKLE_RANGE, 2);
+    forward_refused("forward REPEATED", twice, 16, LENT, PANBUCKLE_REPEATED, 4);
+    forward_refused("forward ROW", row, 6, LENT, PANBUCKLE_ROW, 2);
+    forward_refused("forward COLUMN", column, 8, LENT, PANBUCKLE_COLUMN, 1);
+    lend();
+    uint32_t full = panbuckle_forward(ring, 16, work, LENT, out, 15, result);
+    judge("forward ROOM", full, PANBUCKLE_ROOM, 4, 0, begins(work, zeros, 16) && untouched(out));
+    lend();
+    uint32_t done = panbuckle_forward(ring, 16, work, LENT, out, 16, result);
+    judge("forward DONE", done, PANBUCKLE_DONE, 0, 4, begins(work, zeros, 16) && begins(out, ring_list, 16) && result[3] == 12 && result[4] == 32);
+}
+
+static void backward_calls(void)
+{
+    static const int32_t flat[8] = {0, 0, 1, 1, 5, 5, 0, 2};
+    static const int32_t far[4] = {999999999, 0, 2, 1};
+    static const int32_t corners[16] = {0, 0, 4, 0, 1, 1, 3, 1, 1, 3, 3, 3, 0, 4, 4, 4};
+    static int32_t many[4 * (PANBUCKLE_MOST_RECTS + 1)];
+    backward_refused("backward LENGTH", ring_list, 15, LENT, PANBUCKLE_LENGTH, 0);
+    backward_refused("backward MANY", many, sizeof many / sizeof many[0], LENT, PANBUCKLE_MANY, 0);
+    backward_refused("backward FLAT", flat, 8, LENT, PANBUCKLE_FLAT, 1);
+    backward_refused("backward RANGE", far, 4, LENT, PANBUCKLE_RANGE, 0);
+    backward_refused("backward ROOM", ring_list, 16, 15, PANBUCKLE_ROOM, 8);
+    lend();
+    uint32_t done = panbuckle_backward(ring_list, 16, out, 16, result);
+    judge("backward DONE", done, PANBUCKLE_DONE, 0, 8, begins(out, corners, 16));
+}
+
+static void step_calls(void)
+{
+    lend();
+    memcpy(work, square, sizeof square);
+    step_refused("step MANY", LENT, PANBUCKLE_MOST_POINTS + 1, PANBUCKLE_MANY, 0);
+    step_refused("step WORK", 7, 4, PANBUCKLE_WORK, 0);
+    step_refused("step DRAINED", LENT, 0, PANBUCKLE_DRAINED, 0);
+    step_refused("step ROW", LENT, 3, PANBUCKLE_ROW, 2);
+    step_refused("step REPEATED", LENT, 6, PANBUCKLE_REPEATED, 5);
+    uint32_t done = panbuckle_step(work, LENT, 4, rect, result);
+    judge("step DONE", done, PANBUCKLE_DONE, 0, 0, begins(work, zeros, 8) && memcmp(rect, (int32_t[4]){0, 0, 1, 1}, sizeof rect) == 0);
+}
+
+int main(void)
+{
+    forward_calls();
+    backward_calls();
+    step_calls();
+    printf("%d calls\n", calls);
+    return 0;
+}

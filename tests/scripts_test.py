@@ -1,4 +1,4 @@
-"""Tests the script bin/fracture on a made-up tree, with a stand-in for the kit: when it builds, and that the program gets the input.
+"""Tests the scripts of bin/ on a made-up tree, with a stand-in for the kit: when they build, and that the program gets the input.
 
 The last line is 'N passed, M failed', and the exit status is 0 exactly when M is 0.
 """
@@ -14,7 +14,7 @@ from pathlib import Path
 
 from counting import run_tests
 
-SCRIPT = Path(__file__).resolve().parent.parent / "bin" / "fracture"
+SCRIPTS = Path(__file__).resolve().parent.parent / "bin"
 
 # The stand-in's `rt` counts its builds, would eat the points if it were given them, and builds a program that writes what it reads.
 RT = """#!/bin/sh
@@ -25,11 +25,12 @@ check)
     cat
     echo build >>"$KIT/builds"
     mkdir -p target/bin
-    printf '#!/bin/sh\\necho read\\ncat\\n' >target/bin/fracture
-    chmod +x target/bin/fracture
+    printf '#!/bin/sh\\necho %s read\\ncat\\n' "$2" >"target/bin/$2"
+    chmod +x "target/bin/$2"
     ;;
 esac
 """
+READ = "fracture read\n0 0\n1 0\n"
 LOADER = '#!/bin/sh\nshift 2\nexec "$@"\n'
 
 
@@ -41,7 +42,7 @@ def write(path, text):
 
 
 class Script(unittest.TestCase):
-    """What the script does in one tree."""
+    """What a script does in one tree."""
 
     def setUp(self):
         folder = tempfile.TemporaryDirectory()
@@ -51,7 +52,8 @@ class Script(unittest.TestCase):
         self.source = self.tree / "crates" / "fracture" / "src" / "main.rt"
         write(self.source, "fn main() {}\n")
         write(self.tree / "crates.txt", "fracture:\n")
-        write(self.tree / "bin" / "fracture", SCRIPT.read_text(encoding="utf-8"))
+        for script in SCRIPTS.iterdir():
+            write(self.tree / "bin" / script.name, script.read_text(encoding="utf-8"))
         write(self.kit / "bin" / "rt", RT)
         write(self.kit / "docs" / "START-HERE.md", "")
         write(self.kit / "on" / platform.machine() / "toolchain" / "lib" / "ld-linux-x86-64.so.2", LOADER)
@@ -69,19 +71,24 @@ class Script(unittest.TestCase):
 
     def test_builds_on_first_use_and_keeps_the_points(self):
         done = self.run_script()
-        self.assertEqual((done.returncode, done.stdout, self.builds()), (0, "read\n0 0\n1 0\n", 1))
+        self.assertEqual((done.returncode, done.stdout, self.builds()), (0, READ, 1))
         self.assertIn("built and proved first", done.stderr)
 
     def test_builds_once(self):
         self.run_script()
         done = self.run_script()
-        self.assertEqual((done.stdout, done.stderr, self.builds()), ("read\n0 0\n1 0\n", "", 1))
+        self.assertEqual((done.stdout, done.stderr, self.builds()), (READ, "", 1))
 
     def test_builds_again_after_an_edit(self):
         self.run_script()
         later = (self.tree / "target" / "bin" / "fracture").stat().st_mtime + 10
         os.utime(self.source, (later, later))
-        self.assertEqual((self.run_script().stdout, self.builds()), ("read\n0 0\n1 0\n", 2))
+        self.assertEqual((self.run_script().stdout, self.builds()), (READ, 2))
+
+    def test_each_script_runs_its_own_program(self):
+        done = self.run_script(self.tree / "bin" / "picture")
+        self.assertEqual((done.returncode, done.stdout, self.builds()), (0, READ.replace("fracture", "picture"), 1))
+        self.assertEqual((self.run_script().stdout, self.builds()), (READ, 2))
 
     def test_says_when_it_cannot_be_built(self):
         write(self.kit / "broken", "")
@@ -101,7 +108,7 @@ class Script(unittest.TestCase):
     def test_runs_through_a_link(self):
         link = self.folder / "fracture"
         link.symlink_to(self.tree / "bin" / "fracture")
-        self.assertEqual(self.run_script(link).stdout, "read\n0 0\n1 0\n")
+        self.assertEqual(self.run_script(link).stdout, READ)
 
 
 if __name__ == "__main__":

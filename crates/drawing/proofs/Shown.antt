@@ -1,0 +1,115 @@
+-- What is shown: the points of a text that is accepted, and the list that forward makes of them.
+use Prim.Native.Nat.{ℕ, _*_, _^_, _≤_, _<_}
+use native.Mathlib.Nat.{zero-add}
+use native.Mathlib.Omega.{arith}
+use mathlib.Core.Path.{_≡_, refl, _∙_}
+use mathlib.Core.Logic.{_≢_}
+use mathlib.Core.Bool.{Bool, true, false}
+use mathlib.Core.List.{List}
+use lib.ListN.{length, take}
+use lib.Seq.{take-append-seam}
+use lib.IntN.{ℤ}
+use lib.Dec.{eqb}
+use borrow.Author.Tests.{eqb-true, eqb-false, le-leb, lt-leb}
+use Rattle.plane.specs.declared.Rect.{Rect}
+use Rattle.plane.specs.Lists.{sum}
+use Rattle.plane.specs.Words.{areaOf, edgeOf, pointsOf, flatPoints, rectsOf, flatRects}
+use Rattle.plane.proofs.Arrays.{points-flat, rects-append}
+use Rattle.rule.specs.declared.ForwardAnswer.{ForwardAnswer}
+use Rattle.rule.specs.Rule.{ruleList}
+use Rattle.rule.specs.Table.{Verdict, accepted, refused, verdict, forwardChecks}
+use Rattle.rule.specs.Answers.{written, forwardSays, forwardAnswer, forwardOut}
+use Rattle.rule.proofs.Refusals.{forward-accepted}
+use Rattle.rule.proofs.Area.{rule-area-most, rule-edge-fits}
+use Rattle.panbuckle.specs.Contracts.{ForwardDone}
+use Rattle.numerals.specs.Bytes.{Wrote}
+use Rattle.reading.specs.declared.ReadAnswer.{ReadAnswer}
+use Rattle.reading.specs.Reading.{pointsRead, readChecks, readSays, readAnswer, ReadDone}
+use Rattle.reading.proofs.Kept.{read-done, read-refused}
+use Rattle.text.specs.declared.Report.{Report}
+use Rattle.text.specs.Program.{mostWork, mostList, programReport}
+use Rattle.drawing.specs.Picture.{sayPart, svgOf, shown, pointsShown, listShown, pictureOf, Drawn}
+use Rattle.drawing.specs.Inner.{svgWith, listMade}
+
+-- ---- The list
+
+-- an answer has the sums of the list shown
+sums-shown : (v : Verdict) (rs : List Rect) → let r = forwardSays v rs in (r .count ≡ length (shown v rs)) × (r .area ≡ sum areaOf (shown v rs)) × (r .edge ≡ sum edgeOf (shown v rs))
+unfolding sum
+sums-shown accepted rs = (refl, refl, refl)
+sums-shown (refused k p) rs = (refl, refl, refl)
+
+-- and the output begins with it
+starts-shown : (v : Verdict) (rs : List Rect) (out : List ℤ) → take (length (shown v rs)) (rectsOf (written v (flatRects rs) out)) ≡ shown v rs
+starts-shown accepted rs out = rw (rects-append rs) (take-append-seam rs _)
+starts-shown (refused k p) rs out = refl
+
+-- with the program's room it is not long, and its sums fit
+pub list-small : (a : List ℤ) → let rs = listMade a in (length rs ≤ 3200) × (sum areaOf rs < 10 ^ 20) × (sum edgeOf rs < 10 ^ 20)
+unfolding sum
+list-small a = go (verdict (forwardChecks a mostWork mostList)) refl
+  where
+    go : (v : Verdict) → verdict (forwardChecks a mostWork mostList) ≡ v → let rs = shown v (ruleList (pointsOf a)) in (length rs ≤ 3200) × (sum areaOf rs < 10 ^ 20) × (sum edgeOf rs < 10 ^ 20)
+    go accepted e =
+        let c = forward-accepted a mostWork mostList .0 e in
+        (c .room, omega (arith, rule-area-most (pointsOf a) (c .points)), omega (arith, rule-edge-fits (pointsOf a) (c .points)))
+    go (refused k p) e = omega arith
+
+-- what forward leaves, with the program's work and room
+pub record Made (a : List ℤ) (r : ForwardAnswer) (out-after : List ℤ) : Type 0 where
+  pub list : take (r .count) (rectsOf out-after) ≡ listMade a
+  pub count : r .count ≡ length (listMade a)
+  pub area : r .area ≡ sum areaOf (listMade a)
+  pub edge : r .edge ≡ sum edgeOf (listMade a)
+
+pub list-made : {a work out : List ℤ} {r : ForwardAnswer} {work-after out-after : List ℤ} → ForwardDone a work out r work-after out-after → length work ≡ mostWork → length out ≡ mostList → Made a r out-after
+unfolding forwardAnswer forwardOut
+list-made {a} {work} {out} {r} {out-after = after} d w o =
+    let v = verdict (forwardChecks a mostWork mostList) in
+    let rs = ruleList (pointsOf a) in
+    let e : r ≡ forwardSays v rs = rw (w, o) at (d .answer) in
+    let f : after ≡ written v (flatRects rs) out = rw (w, o) at (d .output) in
+    let s = sums-shown v rs in
+    record { list = rw (e, f, s .0) (starts-shown v rs out); count = rw e (s .0); area = rw e (s .1); edge = rw e (s .2) }
+
+-- a picture with these sums is the picture of the list
+pub svg-made : {a : List ℤ} {r : ForwardAnswer} {after : List ℤ} (report : Report) → Made a r after → svgWith (pointsOf a) (take (r .count) (rectsOf after)) r report ≡ svgOf (pointsOf a) (listMade a) report
+unfolding svgOf sayPart
+svg-made report m = rw (m .list, m .count, m .area, m .edge)
+
+-- ---- The points
+
+-- what the reader leaves, with room for every text that is accepted: the points shown
+pub record Read (t : List ℕ) (r : ReadAnswer) (out-after : List ℤ) : Type 0 where
+  pub few : r .count ≤ 4096
+  pub fits : 2 * r .count ≤ length out-after
+  pub numbers : take (2 * r .count) out-after ≡ flatPoints (pointsShown t)
+
+pub points-read : {t : List ℕ} {out : List ℤ} {r : ReadAnswer} {after : List ℤ} → ReadDone t out r after → 8192 ≤ length out → Read t r after
+unfolding pointsShown readAnswer flatPoints
+points-read {t} {out} {r} {after} d room = go (eqb (r .answer) 0) refl
+  where
+    none : (v : Verdict) → readSays v (pointsRead t) .answer ≢ 0 → readSays v (pointsRead t) .count ≡ 0
+    none accepted n = absurd (n refl)
+    none (refused k p) n = refl
+
+    go : (b : Bool) → eqb (r .answer) 0 ≡ b → Read t r after
+    go true e = let h = read-done d (eqb-true (r .answer) 0 e) in record { few = h .few; fits = h .fits; numbers = rw (h .accepts) (h .numbers) }
+    go false e =
+        let n = eqb-false (r .answer) 0 e in
+        let z : r .count ≡ 0 = rw (d .answer) (none (verdict (readChecks t (length out))) (rw (d .answer) at n)) in
+        record { few = omega arith; fits = omega arith; numbers = rw (z, read-refused d room n) }
+
+-- ---- The picture
+
+-- what is drawn of them is the picture of the text
+pub picture-shown : (t : List ℕ) → let a = flatPoints (pointsShown t) in svgOf (pointsOf a) (listMade a) (programReport t) ≡ pictureOf t
+unfolding pictureOf listShown
+picture-shown t = rw (points-flat (pointsShown t))
+
+-- with room it is drawn, and without it nothing is
+pub drawn : {t out : List ℕ} {r : ℕ} {after : List ℕ} → Wrote out 0 (pictureOf t) r after → 800_000 ≤ length out → Drawn t out r after
+drawn {out = out} w h = let e = le-leb 800_000 (length out) h in record { size = rw e (w .place ∙ zero-add _); output = rw e (w .output) }
+
+pub not-drawn : (t out : List ℕ) → length out < 800_000 → Drawn t out 0 out
+not-drawn t out h = let e = lt-leb 800_000 (length out) h in record { size = rw e; output = rw e }

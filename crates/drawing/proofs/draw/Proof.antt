@@ -1,0 +1,38 @@
+-- `drawing::draw` meets its contract: what is drawn is the list that forward made.
+use native.Mathlib.Omega.{arith}
+use mathlib.Core.Path.{_≡_, _∙_}
+use lib.ListN.{length, replicate, length-replicate}
+use lib.IntN.{pos}
+use borrow.Author.Needs.{needs}
+use Rattle.panbuckle.specs.Contracts.{ForwardDone}
+use Rattle.panbuckle.proofs.Kept.{lengths-kept}
+use Rattle.text.specs.Program.{mostWork, mostList}
+use Rattle.drawing.proofs.Shown.{list-small, Made, list-made, svg-made}
+use Rattle.drawing.proofs.draw.Statement.{statement}
+use Rattle.drawing.proofs.draw.Tie as tie
+
+-- the arrays that forward is lent have the program's lengths
+ran : (c : tie.After-forward) → ForwardDone (c .before .before .before .before .args .points .now) (replicate mostWork (pos 0)) (replicate mostList (pos 0)) (c .forward .result) (c .forward .last .1 .0) (c .forward .last .1 .1 .0)
+ran c = c .forward .ensures
+
+made : (c : tie.After-forward) → Made (c .before .before .before .before .args .points .now) (c .forward .result) (c .forward .last .1 .1 .0)
+made c = list-made (ran c) (length-replicate mostWork (pos 0)) (length-replicate mostList (pos 0))
+
+put-picture-requires : tie.Need-put-picture-requires
+put-picture-requires c κs =
+    let f = c .before .before .before .before in
+    let s = f .before .before .before .before in
+    let few = list-small (s .args .points .now) .0 in
+    let room : length (f .forward .last .1 .1 .0) ≡ mostList = lengths-kept (ran f) .1 ∙ length-replicate mostList (pos 0) in
+    (s .pre .0, omega (arith, made f .count), omega (arith, made f .count), s .pre .1)
+
+returns : tie.Need-returns
+returns c =
+    let p = c .before .before in
+    let f = p .before .before .before .before .before in
+    rw (svg-made (f .before .before .before .before .args .r) (made f)) at (p .put-picture .ensures)
+
+pub draw-spec : {M : Type 1} → statement M
+draw-spec =
+    tie.close
+    (tie.spec (λ c. search needs) (λ c. search needs) (λ c κs. search needs) (λ c. search needs) put-picture-requires (λ c. search needs) returns)

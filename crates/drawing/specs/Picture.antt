@@ -1,0 +1,131 @@
+-- The picture's text, of the bytes that the program reads.
+use Prim.Native.Nat.{ℕ, suc, _+_, _/_}
+use mathlib.Core.Path.{_≡_}
+use mathlib.Core.Bool.{cond}
+use mathlib.Core.List.{List, [], _∷_, _++_}
+use lib.ListN.{length, drop, getD}
+use lib.Dec.{eqb, leb}
+use Rattle.plane.specs.declared.Point.{Point}
+use Rattle.plane.specs.declared.Rect.{Rect}
+use Rattle.plane.specs.Lists.{sum}
+use Rattle.plane.specs.Words.{areaOf, edgeOf, flatPoints}
+use Rattle.rule.specs.Rule.{ruleList}
+use Rattle.rule.specs.Table.{Verdict, accepted, refused, verdict, forwardChecks}
+use Rattle.numerals.specs.Bytes.{ascii, pasted}
+use Rattle.numerals.specs.Numerals.{decimal}
+use Rattle.reading.specs.Reading.{pointsRead, textChecks}
+use Rattle.text.specs.declared.Report.{Report}
+use Rattle.text.specs.Program.{mostWork, mostList, namesOne, programReport}
+use Rattle.text.specs.Sentences.{sentence}
+use Rattle.drawing.specs.declared.View.{View}
+use Rattle.drawing.specs.declared.Box.{Box}
+use Rattle.drawing.specs.Plan.{raised, frameOf, viewOf, across, down, beside, boxOf, numberSize, dotRadius}
+
+-- ---- Templates
+
+-- the byte that stands for a number in a template
+abbrev pub blank : ℕ
+blank = 64
+
+-- a template with the numbers, printed, in the places of its `@`
+unfoldable pub filled : (template numbers : List ℕ) → List ℕ
+filled [] ns = []
+filled (c ∷ cs) ns = cond (eqb c blank) (decimal (getD ns 0 0) ++ filled cs (drop 1 ns)) (c ∷ filled cs ns)
+
+-- ---- Parts of a picture
+
+-- the picture's size, its colours and its paper
+unfoldable pub headOf : View → List ℕ
+headOf v =
+    filled
+    (ascii "<svg xmlns='http://www.w3.org/2000/svg' width='1040' height='@' viewBox='-@ -8000 104000 @'>\n<style>.paper{fill:white}.list rect{fill:lightsteelblue;stroke:navy;stroke-width:40}.list text{font-family:sans-serif;text-anchor:middle;fill:black}.points circle{fill:black}.bad{fill:none;stroke:red;stroke-width:150}.said{font:2400px sans-serif}.why{font:1500px sans-serif}</style>\n<rect class='paper' x='-@' y='-8000' width='104000' height='@'/>\n<g class='list'>\n")
+    (((v .height + 10_000) / 100) ∷ (beside v + 2000) ∷ (v .height + 10_000) ∷ (beside v + 2000) ∷ (v .height + 10_000) ∷ [])
+
+-- a rectangle with its number in the middle
+unfoldable pub blockOf : (number : ℕ) → Box → List ℕ
+blockOf number b =
+    filled
+    (ascii "<rect x='@' y='@' width='@' height='@'/><text x='@' y='@' dy='.35em' font-size='@'>@</text>\n")
+    (b .x ∷ b .y ∷ b .w ∷ b .h ∷ (b .x + b .w / 2) ∷ (b .y + b .h / 2) ∷ numberSize b ∷ number ∷ [])
+
+-- rectangles, numbered from a number on
+unfoldable pub blocks : View → (from : ℕ) → List Rect → List ℕ
+blocks v from [] = []
+blocks v from (r ∷ rs) = blockOf from (boxOf v r) ++ blocks v (suc from) rs
+
+-- a point
+unfoldable pub dotOf : View → (radius : ℕ) → Point → List ℕ
+dotOf v radius p = filled (ascii "<circle cx='@' cy='@' r='@'/>\n") (across v (raised (p .x)) ∷ down v (raised (p .y)) ∷ radius ∷ [])
+
+-- points
+unfoldable pub dots : View → (radius : ℕ) → List Point → List ℕ
+dots v radius [] = []
+dots v radius (p ∷ ps) = dotOf v radius p ++ dots v radius ps
+
+-- the mark of a point: its row, its column and a ring
+unfoldable pub markOf : View → (radius : ℕ) → Point → List ℕ
+markOf v radius p =
+    filled
+    (ascii "<path class='bad' d='M0 @H@M@ 0V@'/><circle class='bad' cx='@' cy='@' r='@'/>\n")
+    (down v (raised (p .y)) ∷ v .width ∷ across v (raised (p .x)) ∷ v .height ∷ across v (raised (p .x)) ∷ down v (raised (p .y)) ∷ (radius + 800) ∷ [])
+
+-- what is said above a list: its sums
+unfoldable pub listSays : View → (count area edge : ℕ) → List ℕ
+listSays v count area edge = filled (ascii "<text class='said' x='-@' y='-3000'>rects @ area @ edge @</text>\n") (beside v ∷ count ∷ area ∷ edge ∷ [])
+
+-- what is said above points that are refused: the refusal's number and place
+unfoldable pub refusedSays : View → Report → List ℕ
+refusedSays v r = filled (ascii "<text class='said' x='-@' y='-5000'>refused @ place @</text>\n<text class='why' x='-@' y='-2200'>") (beside v ∷ r .answer ∷ r .place ∷ beside v ∷ [])
+
+-- and then the program's sentence
+unfoldable pub refusalSays : View → Report → List ℕ
+refusalSays v r = refusedSays v r ++ (sentence r ++ ascii "</text>\n")
+
+-- ---- The picture
+
+-- the rectangles, in list order
+unfoldable pub listPart : View → List Rect → List ℕ
+listPart v rs = headOf v ++ (blocks v 0 rs ++ ascii "</g>\n<g class='points'>\n")
+
+-- the points
+unfoldable pub pointPart : View → List Point → List ℕ
+pointPart v ps = dots v (dotRadius (length ps)) ps ++ ascii "</g>\n"
+
+-- the mark of the point that a refusal names
+unfoldable pub markPart : View → List Point → Report → List ℕ
+markPart v ps r = cond (namesOne (r .answer)) (markOf v (dotRadius (length ps)) (r .point)) []
+
+-- what is said above
+unfoldable pub sayPart : View → List Rect → Report → List ℕ
+sayPart v rs r = cond (eqb (r .answer) 0) (listSays v (length rs) (sum areaOf rs) (sum edgeOf rs)) (refusalSays v r)
+
+-- a picture of points, their list and the program's report
+unfoldable pub svgOf : List Point → List Rect → Report → List ℕ
+svgOf ps rs r =
+    let v = viewOf (frameOf ps) in
+    listPart v rs ++ (pointPart v ps ++ (markPart v ps r ++ (sayPart v rs r ++ ascii "</svg>\n")))
+
+-- what is shown of points or rectangles: all that are accepted, none of what is refused
+abbrev pub shown : {A : Type 0} → Verdict → List A → List A
+shown accepted xs = xs
+shown (refused k p) xs = []
+
+-- the points shown: none, if the text is refused
+unfoldable pub pointsShown : List ℕ → List Point
+pointsShown t = shown (verdict (textChecks t)) (pointsRead t)
+
+-- the list shown: none, if the points are refused
+unfoldable pub listShown : List Point → List Rect
+listShown ps = shown (verdict (forwardChecks (flatPoints ps) mostWork mostList)) (ruleList ps)
+
+-- the picture of what the program reads
+unfoldable pub pictureOf : List ℕ → List ℕ
+pictureOf t = svgOf (pointsShown t) (listShown (pointsShown t)) (programReport t)
+
+-- ---- The contract
+
+-- drawing a text into an output: how many bytes the picture has, and the output afterwards, which holds it at its start; with less room
+-- than the largest picture needs nothing is drawn
+pub record Drawn (t out : List ℕ) (r : ℕ) (out-after : List ℕ) : Type 0 where
+  pub size : r ≡ cond (leb 800_000 (length out)) (length (pictureOf t)) 0
+  pub output : out-after ≡ cond (leb 800_000 (length out)) (pasted out 0 (pictureOf t)) out

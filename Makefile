@@ -1,9 +1,17 @@
 .DEFAULT_GOAL := help
-.PHONY: help test
+.PHONY: help test archive mutants
 
 help:
-	@echo 'make help   print the targets'
-	@echo 'make test   run the test gate, .ci/run'
+	@echo 'make help      print the targets'
+	@echo 'make test      run the test gate, .ci/run'
+	@echo 'make archive   prove the C face and write target/staticlib/libpanbuckle_c.a'
+	@echo 'make mutants   have the prover check small edits of the code; it takes an hour or so, and is no part of the gate'
 
 test:
 	@.ci/run
+
+archive:
+	@rt staticlib panbuckle_c
+
+mutants:
+	@tests/mutants

@@ -11,7 +11,7 @@ use lib.Seq.{drop-cons, drop-drop, drop-length, getD-drop}
 use lib.Dec.{eqb}
 use Rattle.plane.specs.Lists.{bit}
 use Rattle.plane.proofs.Bools.{cond-case}
-use Rattle.numerals.specs.Bytes.{Wrote}
+use Rattle.numerals.specs.Inner.{Wrote}
 use Rattle.numerals.specs.Numerals.{decimal}
 use Rattle.numerals.proofs.Printing.{decimal-length}
 use Rattle.numerals.proofs.Writing.{wrote-nothing, wrote-length, wrote-then, room-first, room-then}

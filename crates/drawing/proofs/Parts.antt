@@ -11,7 +11,7 @@ use Rattle.plane.specs.declared.Point.{Point}
 use Rattle.plane.specs.declared.Rect.{Rect}
 use Rattle.plane.proofs.Bools.{cond-case}
 use Rattle.rule.specs.Table.{pointAt, rectAt}
-use Rattle.numerals.specs.Bytes.{Wrote}
+use Rattle.numerals.specs.Inner.{Wrote}
 use Rattle.numerals.proofs.Writing.{wrote-length}
 use Rattle.text.specs.declared.Report.{Report}
 use Rattle.text.specs.Program.{namesOne}

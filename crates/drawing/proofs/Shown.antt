@@ -22,7 +22,7 @@ use Rattle.rule.specs.Answers.{written, forwardSays, forwardAnswer, forwardOut}
 use Rattle.rule.proofs.Refusals.{forward-accepted}
 use Rattle.rule.proofs.Area.{rule-area-most, rule-edge-fits}
 use Rattle.panbuckle.specs.Contracts.{ForwardDone}
-use Rattle.numerals.specs.Bytes.{Wrote}
+use Rattle.numerals.specs.Inner.{Wrote}
 use Rattle.reading.specs.declared.ReadAnswer.{ReadAnswer}
 use Rattle.reading.specs.Reading.{pointsRead, readChecks, readSays, readAnswer, ReadDone}
 use Rattle.reading.proofs.Kept.{read-done, read-refused}

@@ -73,7 +73,7 @@ markOf v radius p =
 unfoldable pub listSays : View → (count area edge : ℕ) → List ℕ
 listSays v count area edge = filled (ascii "<text class='said' x='-@' y='-3000'>rects @ area @ edge @</text>\n") (beside v ∷ count ∷ area ∷ edge ∷ [])
 
--- what is said above points that are refused: the refusal's number and place
+-- what is said above points that are refused: the refusal's number and place, and the start of a second line
 unfoldable pub refusedSays : View → Report → List ℕ
 refusedSays v r = filled (ascii "<text class='said' x='-@' y='-5000'>refused @ place @</text>\n<text class='why' x='-@' y='-2200'>") (beside v ∷ r .answer ∷ r .place ∷ beside v ∷ [])
 
@@ -124,8 +124,7 @@ pictureOf t = svgOf (pointsShown t) (listShown (pointsShown t)) (programReport t
 
 -- ---- The contract
 
--- drawing a text into an output: how many bytes the picture has, and the output afterwards, which holds it at its start; with less room
--- than the largest picture needs nothing is drawn
+-- the picture's size, and the output afterwards with the picture at its start; with less room than the largest needs nothing is drawn
 pub record Drawn (t out : List ℕ) (r : ℕ) (out-after : List ℕ) : Type 0 where
   pub size : r ≡ cond (leb 800_000 (length out)) (length (pictureOf t)) 0
   pub output : out-after ≡ cond (leb 800_000 (length out)) (pasted out 0 (pictureOf t)) out

@@ -6,7 +6,7 @@ ghost use lib.ListN.{length, take, getD};
 ghost use lib.Dec.{eqb};
 ghost use Rattle.plane.specs.Lists.{bit};
 ghost use Rattle.plane.specs.Words.{pointsOf, rectsOf};
-ghost use Rattle.numerals.specs.Bytes.{Wrote};
+ghost use Rattle.numerals.specs.Inner.{Wrote};
 ghost use Rattle.drawing.specs.Plan.{extent, raised, about, widened, frameOf, spanOf, scaled, viewOf, across, down, beside, boxOf, numberSize, dotRadius};
 ghost use Rattle.drawing.specs.Picture.{blank, filled, headOf, blockOf, blocks, dotOf, dots, markOf, listSays, refusedSays, refusalSays, listPart, pointPart, markPart, svgOf, Drawn};
 ghost use Rattle.drawing.specs.Inner.{piece, IsRaised, ShowsAll, IsSmall, answerPart, svgWith, listMade};

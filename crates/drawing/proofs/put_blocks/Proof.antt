@@ -8,7 +8,7 @@ use borrow.Author.Needs.{needs}
 use Rattle.plane.specs.Words.{rectsOf}
 use Rattle.plane.proofs.Arrays.{length-rects}
 use Rattle.rule.specs.Table.{rectAt}
-use Rattle.numerals.specs.Bytes.{Wrote}
+use Rattle.numerals.specs.Inner.{Wrote}
 use Rattle.numerals.proofs.Writing.{wrote-nothing, wrote-then}
 use Rattle.drawing.specs.Plan.{boxOf}
 use Rattle.drawing.specs.Picture.{blocks}

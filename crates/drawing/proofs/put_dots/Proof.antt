@@ -9,7 +9,7 @@ use borrow.Author.Needs.{needs}
 use Rattle.plane.specs.Words.{pointsOf}
 use Rattle.plane.proofs.Arrays.{length-points}
 use Rattle.rule.specs.Table.{pointAt}
-use Rattle.numerals.specs.Bytes.{Wrote}
+use Rattle.numerals.specs.Inner.{Wrote}
 use Rattle.numerals.proofs.Writing.{wrote-nothing, wrote-then}
 use Rattle.drawing.specs.Picture.{dots}
 use Rattle.drawing.proofs.Parts.{dot-length, wrote-most, dots-next}

@@ -8,7 +8,7 @@ use lib.ListN.{length, set}
 use lib.Seq.{set-split}
 use borrow.Author.Needs.{needs}
 use borrow.Author.Tests.{eq-eqb, ne-eqb}
-use Rattle.numerals.specs.Bytes.{Wrote}
+use Rattle.numerals.specs.Inner.{Wrote}
 use Rattle.numerals.proofs.Writing.{wrote}
 use Rattle.drawing.specs.Picture.{blank}
 use Rattle.drawing.specs.Inner.{piece}

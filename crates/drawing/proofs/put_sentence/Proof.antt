@@ -3,7 +3,7 @@ use Prim.Native.Nat.{_≤_}
 use native.Mathlib.Omega.{arith}
 use lib.ListN.{length, replicate}
 use borrow.Author.Needs.{needs}
-use Rattle.numerals.specs.Bytes.{Wrote}
+use Rattle.numerals.specs.Inner.{Wrote}
 use Rattle.numerals.proofs.Writing.{wrote, wrote-front, wrote-within, wrote-many}
 use Rattle.text.specs.Sentences.{sentence}
 use Rattle.text.proofs.Lengths.{sentence-length}

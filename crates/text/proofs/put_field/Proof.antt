@@ -4,7 +4,7 @@ use borrow.Author.Needs.{needs}
 use Rattle.plane.proofs.Bits.{back}
 use Rattle.numerals.specs.Numerals.{signed}
 use Rattle.numerals.proofs.Writing.{wrote, wrote-then, room-first, room-then}
-use Rattle.numerals.specs.Bytes.{Wrote}
+use Rattle.numerals.specs.Inner.{Wrote}
 use Rattle.text.proofs.put_field.Statement.{statement}
 use Rattle.text.proofs.put_field.Tie as tie
 

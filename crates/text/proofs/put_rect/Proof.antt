@@ -6,7 +6,8 @@ use mathlib.Core.List.{List, _++_}
 use lib.ListN.{length}
 use borrow.Author.Needs.{needs}
 use Rattle.plane.proofs.Bits.{back}
-use Rattle.numerals.specs.Bytes.{ascii, Wrote}
+use Rattle.numerals.specs.Bytes.{ascii}
+use Rattle.numerals.specs.Inner.{Wrote}
 use Rattle.text.specs.Inner.{field}
 use Rattle.numerals.proofs.Writing.{wrote-then, room-first, room-then}
 use Rattle.text.proofs.Lines.{rect-pieces}

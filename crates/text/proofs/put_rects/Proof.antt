@@ -10,7 +10,7 @@ use Rattle.plane.specs.declared.Rect.{Rect}
 use Rattle.plane.specs.Words.{rectsOf}
 use Rattle.plane.proofs.Arrays.{length-rects}
 use Rattle.rule.specs.Table.{rectAt}
-use Rattle.numerals.specs.Bytes.{Wrote}
+use Rattle.numerals.specs.Inner.{Wrote}
 use Rattle.text.specs.Program.{rectLine, rectLines}
 use Rattle.numerals.proofs.Writing.{wrote-nothing, wrote-length, wrote-then, room-first, room-then}
 use Rattle.text.proofs.Lines.{rect-lines-next, rect-lines-more}

@@ -2,7 +2,7 @@
 use borrow.Author.Needs.{needs}
 use Rattle.numerals.specs.Numerals.{decimal}
 use Rattle.numerals.proofs.Writing.{wrote, wrote-then, room-first, room-then}
-use Rattle.numerals.specs.Bytes.{Wrote}
+use Rattle.numerals.specs.Inner.{Wrote}
 use Rattle.text.proofs.put_worded.Statement.{statement}
 use Rattle.text.proofs.put_worded.Tie as tie
 

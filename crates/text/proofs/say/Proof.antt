@@ -7,7 +7,7 @@ use mathlib.Core.List.{List, _++_}
 use lib.ListN.{length}
 use borrow.Author.Needs.{needs}
 use borrow.Author.Tests.{le-leb, lt-leb, ne-eqb}
-use Rattle.numerals.specs.Bytes.{Wrote}
+use Rattle.numerals.specs.Inner.{Wrote}
 use Rattle.text.specs.declared.Report.{Report}
 use Rattle.text.specs.Program.{namesOne}
 use Rattle.text.specs.Sentences.{namesPoint, pointFault, sentence}

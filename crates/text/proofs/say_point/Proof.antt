@@ -8,7 +8,8 @@ use lib.IntN.{ℤ}
 use borrow.Author.Needs.{needs}
 use Rattle.plane.specs.declared.Point.{Point}
 use Rattle.plane.proofs.Bits.{back}
-use Rattle.numerals.specs.Bytes.{ascii, Wrote}
+use Rattle.numerals.specs.Bytes.{ascii}
+use Rattle.numerals.specs.Inner.{Wrote}
 use Rattle.numerals.specs.Numerals.{decimal, signed}
 use Rattle.text.specs.Inner.{worded, field}
 use Rattle.text.specs.Sentences.{namesPoint}

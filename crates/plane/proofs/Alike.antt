@@ -3,26 +3,33 @@
 use mathlib.Core.Path.{_≡_, refl, sym, ap₂, _∙_, subst}
 use Prim.Native.Nat.{_≤_}
 use mathlib.Core.Bool.{Bool, true, false, _&&_, xor, and-true, and-false}
-use mathlib.Core.List.{List, _++_, List·Memᴰ as In}
+use mathlib.Core.List.{List, [], _∷_, _++_, List·Memᴰ as In, List·Memᴰ·head as head}
 use lib.IntN.{ℤ, predℤ}
 use lib.Signed.{leZ}
 use Rattle.plane.specs.declared.Point.{Point}
 use Rattle.plane.specs.Lists.{odd, count}
 use Rattle.plane.specs.Words.{eqZ, same, under, marks}
 use Rattle.plane.proofs.Order.{order, pred-up}
-use Rattle.plane.proofs.Bools.{xor-same, xor-self}
+use Rattle.plane.proofs.Bools.{clash, xor-same, xor-self}
 use Rattle.plane.proofs.Parity.{odd-find, odd-none, odd-one, odd-append, odd-xor, odd-cong, classes-even}
 use Rattle.plane.proofs.Points.{same-is, same-refl}
 
+-- of both lists every test passes the same parity of points
 pub record Alike (ps qs : List Point) : Type 0 where
   pub parity : (f : Point → Bool) → odd f ps ≡ odd f qs
 
+-- alike either way round
 pub alike-sym : {ps qs : List Point} → Alike ps qs → Alike qs ps
 alike-sym h = record { parity = λ f. sym (h .parity f) }
 
 -- a point of a list without repeats is a point of each list alike
 pub alike-in : {ps qs : List Point} → ((q : Point) → count (same q) ps ≤ 1) → Alike ps qs → (q : Point) → In q ps → In q qs
 alike-in {ps} {qs} once alike q n = let r = odd-find (same q) qs (sym (alike .parity (same q)) ∙ odd-one (same q) n (same-refl q) (once q)) in subst (λ p. In p qs) (sym (same-is q (r .0) (r .2))) (r .1)
+
+-- points without repeats of which every test passes an even number are none
+pub even-none : (ps : List Point) → ((q : Point) → count (same q) ps ≤ 1) → ((f : Point → Bool) → odd f ps ≡ false) → ps ≡ []
+even-none [] once even = refl
+even-none (p ∷ ps) once even = clash (odd-one (same p) (head refl) (same-refl p) (once p)) (even (same p))
 
 -- lists with the same parity of each point have the same parity of every test
 pub points-alike : (ps qs : List Point) → ((q : Point) → odd (same q) ps ≡ odd (same q) qs) → Alike ps qs
@@ -52,6 +59,7 @@ eq-xor a b = go (leZ a b) refl (leZ a (predℤ b)) refl
     go false d true e = absurd (omega (order, pred-up b))
     go false d false e = omega order
 
+-- a conjunction of exclusive ors, multiplied out
 xor-and : (a b c d : Bool) → (xor a b && xor c d) ≡ xor (xor (a && c) (b && c)) (xor (a && d) (b && d))
 unfolding xor
 xor-and true true true true = refl

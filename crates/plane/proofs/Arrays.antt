@@ -5,7 +5,7 @@ use native.Mathlib.Nat.{suc-add}
 use native.Mathlib.Numerals.{add-one}
 use native.Mathlib.Omega.{arith}
 use mathlib.Core.List.{List, [], _∷_, _++_}
-use lib.ListN.{length, getD, take, drop}
+use lib.ListN.{length, getD, take, drop, set}
 use lib.Seq.{take-suc, take-all, take-at}
 use lib.IntN.{ℤ, pos}
 use Rattle.plane.specs.declared.Point.{Point}
@@ -128,8 +128,22 @@ unfolding rectsOf flatRects
 rects-append [] rest = refl
 rects-append (r ∷ rs) rest = ap (λ l. r ∷ l) (rects-append rs rest)
 
--- rectangles after rectangles are their numbers after theirs
-pub flat-rects-append : (rs ts : List Rect) → flatRects (rs ++ ts) ≡ flatRects rs ++ flatRects ts
-unfolding flatRects
-flat-rects-append [] ts = refl
-flat-rects-append (r ∷ rs) ts = ap (λ (l : List ℤ). r .x ∷ r .y ∷ r .w ∷ r .h ∷ l) (flat-rects-append rs ts)
+-- an array is its first rectangles and the rest
+pub rects-rest : (n : ℕ) (a : List ℤ) → 4 * n ≤ length a → a ≡ flatRects (take n (rectsOf a)) ++ drop (4 * n) a
+unfolding rectsOf flatRects
+rects-rest zero a h = refl
+rects-rest (suc n) [] h = absurd (omega arith)
+rects-rest (suc n) (x ∷ []) h = absurd (omega arith)
+rects-rest (suc n) (x ∷ y ∷ []) h = absurd (omega arith)
+rects-rest (suc n) (x ∷ y ∷ w ∷ []) h = absurd (omega arith)
+rects-rest (suc n) (x ∷ y ∷ w ∷ t ∷ rest) h = rw (four-suc n) (ap (λ (l : List ℤ). x ∷ y ∷ w ∷ t ∷ l) (rects-rest n rest (omega arith)))
+
+-- four numbers set from 4i on are a rectangle set at i
+pub rects-set : (a : List ℤ) (i : ℕ) (r : Rect) → 4 * i + 3 < length a → rectsOf (set (set (set (set a (4 * i) (r .x)) (4 * i + 1) (r .y)) (4 * i + 2) (r .w)) (4 * i + 3) (r .h)) ≡ set (rectsOf a) i r
+unfolding rectsOf
+rects-set [] i r l = absurd (omega arith)
+rects-set (x ∷ []) i r l = absurd (omega arith)
+rects-set (x ∷ y ∷ []) i r l = absurd (omega arith)
+rects-set (x ∷ y ∷ w ∷ []) i r l = absurd (omega arith)
+rects-set (x ∷ y ∷ w ∷ h ∷ rest) zero r l = refl
+rects-set (x ∷ y ∷ w ∷ h ∷ rest) (suc i) r l = simp (four-suc, suc-add) (ap (λ (m : List Rect). record { x = x; y = y; w = w; h = h } ∷ m) (rects-set rest i r (omega arith)))

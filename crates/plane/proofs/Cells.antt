@@ -6,6 +6,7 @@ use lib.Signed.{leZ, ltZ}
 use Rattle.plane.specs.Words.{under}
 use Rattle.plane.proofs.Order.{order}
 
+-- less is not at least
 ltZ-not : (a b : ℤ) → ltZ a b ≡ not (leZ b a)
 ltZ-not a b = go (leZ b a) refl
   where

@@ -1,6 +1,6 @@
 -- Counting cells: rectangles that together hold just the cells that pass a test, each once, have areas that add up to
 -- the number of those cells. All is proved for a square of n by n cells at (z, z), and the range is one such square.
-use mathlib.Core.Path.{_≡_, refl, sym, ap, ap₂, fun-ext, _∙_}
+use mathlib.Core.Path.{_≡_, refl, sym, ap₂, _∙_}
 use Prim.Native.Nat.{ℕ, zero, suc, _+_, _-_, _*_, _≤_, min}
 use native.Mathlib.Omega.{arith}
 use mathlib.Core.Bool.{Bool, true, false, _&&_, true≢false}
@@ -11,37 +11,8 @@ use Rattle.plane.specs.declared.Rect.{Rect}
 use Rattle.plane.specs.Lists.{bit, count, sum, sumBelow}
 use Rattle.plane.specs.Words.{lowEnd, highEnd, inRange, right, top, rectInRange, flat, areaOf, holds, cellsFrom, cells}
 use Rattle.plane.proofs.Order.{order, up, dn, add-up, pos-up}
-use Rattle.plane.proofs.Bools.{and-parts, and-four, or-parts}
-use Rattle.plane.proofs.Sums.{sum-zero, sum-cong, sum-add, count-sum}
-
--- ---- Sums over the numbers below n
-
-below-cong : (n : ℕ) {u v : ℕ → ℕ} → ((i : ℕ) → u i ≡ v i) → sumBelow n u ≡ sumBelow n v
-below-cong n h = ap (sumBelow n) (fun-ext h)
-
-below-most : (n c : ℕ) (u : ℕ → ℕ) → ((i : ℕ) → u i ≤ c) → sumBelow n u ≤ n * c
-unfolding sumBelow
-below-most zero c u h = omega arith
-below-most (suc n) c u h = let ih = below-most n c u h in omega (arith, h n)
-
-below-zero : (n : ℕ) → sumBelow n (λ i. 0) ≡ 0
-below-zero n = omega (arith, below-most n 0 (λ i. 0) (λ i. omega arith))
-
--- sums over a list, added up the other way round
-below-sum : {A : Type 0} (n : ℕ) (w : ℕ → A → ℕ) (l : List A) → sumBelow n (λ i. sum (w i) l) ≡ sum (λ a. sumBelow n (λ i. w i a)) l
-unfolding sumBelow
-below-sum zero w l = sym (sum-zero (λ a. 0) l (λ a m. refl))
-below-sum (suc n) w l = ap (λ k. sum (w n) l + k) (below-sum n w l) ∙ sym (sum-add (w n) (λ a. sumBelow n (λ i. w i a)) l)
-
--- the pairs of which both sides pass their test
-below-pairs : (f g : ℕ → Bool) (n m : ℕ) → sumBelow n (λ i. sumBelow m (λ j. bit (f i && g j))) ≡ sumBelow n (λ i. bit (f i)) * sumBelow m (λ j. bit (g j))
-unfolding sumBelow
-below-pairs f g zero m = omega arith
-below-pairs f g (suc n) m = go (f n) _ _ (below-pairs f g n m)
-  where
-    go : (b : Bool) (p q : ℕ) → p ≡ q * sumBelow m (λ j. bit (g j)) → sumBelow m (λ j. bit (b && g j)) + p ≡ (bit b + q) * sumBelow m (λ j. bit (g j))
-    go true p q ih = omega arith
-    go false p q ih = omega (arith, below-zero m)
+use Rattle.plane.proofs.Bools.{and-parts, and-four, or-parts, bit-most}
+use Rattle.plane.proofs.Sums.{sum-cong, count-sum, below-cong, below-most, below-sum, below-pairs}
 
 -- ---- Numbers between two ends, among the n numbers from z on
 
@@ -92,23 +63,22 @@ square-sum z n rs t h = sym (below-sum n (λ i r. sumBelow n (λ j. bit (holds (
     line : (a : ℤ) → sum (λ r. sumBelow n (λ j. bit (holds a (z +ℤ pos j) r))) rs ≡ sumBelow n (λ j. bit (t a (z +ℤ pos j)))
     line a = sym (below-sum n (λ j r. bit (holds a (z +ℤ pos j) r)) rs) ∙ below-cong n (λ j. sym (count-sum (holds a (z +ℤ pos j)) rs) ∙ h a (z +ℤ pos j))
 
+-- at most all the cells of a square pass
 square-most : (z : ℤ) (n : ℕ) (t : ℤ → ℤ → Bool) → cellsFrom z n t ≤ n * n
 unfolding cellsFrom
 square-most z n t = below-most n n _ (λ i. line (z +ℤ pos i))
   where
-    bit-most : (b : Bool) → bit b ≤ 1
-    bit-most true = omega arith
-    bit-most false = omega arith
-
     line : (a : ℤ) → sumBelow n (λ j. bit (t a (z +ℤ pos j))) ≤ n
     line a = omega (arith, below-most n 1 _ (λ j. bit-most (t a (z +ℤ pos j))))
 
 -- ---- Cells of the range
 
+-- a number in range is between its ends
 range-ends : (z : ℤ) → inRange z ≡ true → (leZ lowEnd z ≡ true) × (leZ z highEnd ≡ true)
 unfolding inRange
 range-ends z e = and-parts (leZ lowEnd z) (leZ z highEnd) e
 
+-- a rectangle in range is within it
 range-within : (r : Rect) → rectInRange r ≡ true → Within lowEnd highEnd r
 unfolding rectInRange
 range-within r e =

@@ -1,7 +1,8 @@
-pub mod Order
 pub mod Bools
+pub mod Order
 pub mod Bits
 pub mod Sums
+pub mod Maps
 pub mod Parity
 pub mod Points
 pub mod Alike

@@ -2,7 +2,7 @@
 -- `omega order` reads `leZ a b ≡ true`, `ltZ a b ≡ false`, `eqZ a b ≡ true` and the like, and proves them.
 use mathlib.Core.Path.{_≡_, refl, sym, ap, _∙_}
 use mathlib.Core.Logic.{_≢_}
-use Prim.Native.Nat.{ℕ, zero, suc, _+_, _≤_, _<_}
+use Prim.Native.Nat.{ℕ, zero, suc, _+_, _≤_, _<_, _^_}
 use native.Mathlib.Omega.{arith}
 use mathlib.Core.Bool.{true, false, true≢false, false≢true}
 use lib.Dec.{ltb}
@@ -69,6 +69,7 @@ pub →nlt : (a b : ℤ) → up b + dn a ≤ up a + dn b → ltZ a b ≡ false
 
 -- ---- Equality
 
+-- numbers that pass the test are equal
 pub eqZ-is : (a b : ℤ) → eqZ a b ≡ true → a ≡ b
 unfolding eqZ
 eqZ-is (pos a) (pos b) e = ap pos (eqb-true a b e)
@@ -76,6 +77,7 @@ eqZ-is (pos a) (negsuc b) e = absurd (false≢true e)
 eqZ-is (negsuc a) (pos b) e = absurd (false≢true e)
 eqZ-is (negsuc a) (negsuc b) e = ap negsuc (eqb-true a b e)
 
+-- a number passes it with itself
 pub eqZ-refl : (a : ℤ) → eqZ a a ≡ true
 unfolding eqZ
 eqZ-refl (pos a) = eq-eqb a a refl
@@ -89,6 +91,7 @@ same-ℤ (pos a) (negsuc b) h = absurd (omega arith)
 same-ℤ (negsuc a) (pos b) h = absurd (omega arith)
 same-ℤ (negsuc a) (negsuc b) h = ap negsuc (omega arith)
 
+-- equal numbers have one difference
 pub path→ : (a b : ℤ) → a ≡ b → up a + dn b ≡ up b + dn a
 path→ a b e = rw e
 
@@ -110,10 +113,12 @@ pub ruleset order = (arith, le→, nle→, lt→, nlt→, eq→, neq→, path→
 
 -- ---- Sums: facts for `omega`'s list, as `omega (order, add-up a b)`
 
+-- a difference of two natural numbers
 sub-up : (a b : ℕ) → up (subℕ a b) + b ≡ dn (subℕ a b) + a
 unfolding up dn
 sub-up a b = cond-case (λ z. up z + b ≡ dn z + a) (ltb a b) (λ e. omega (arith, ltb-true a b e)) (λ e. omega (arith, ltb-false a b e))
 
+-- a sum
 pub add-up : (a b : ℤ) → up (a +ℤ b) + (dn a + dn b) ≡ dn (a +ℤ b) + (up a + up b)
 unfolding up dn
 add-up (pos a) (pos b) = omega arith
@@ -137,12 +142,27 @@ pub add-more : (a b : ℤ) → ltZ b (pos 1) ≡ false → ltZ a (a +ℤ b) ≡ 
 unfolding up dn
 add-more a b e = omega (order, add-up a b)
 
+-- a number and the difference to another give that other
 pub far-side : (a b : ℤ) → a +ℤ (b -ℤ a) ≡ b
 far-side a b = +ℤ-comm a (b -ℤ a) ∙ -ℤ-+ℤ-cancel b a
 
+-- a side is the difference of its ends
+pub side-is : (a b : ℤ) → (a +ℤ b) -ℤ a ≡ b
+side-is a b =
+    let far = far-side a (a +ℤ b) in
+    let s = add-up a ((a +ℤ b) -ℤ a) in
+    let t = add-up a b in
+    omega order
+
+-- `pos n` is n above 0
 pub pos-up : (n : ℕ) → (up (pos n) ≡ n) × (dn (pos n) ≡ 0)
 unfolding up dn
 pos-up n = (refl, refl)
+
+-- `negsuc n` is n + 1 below 0
+pub neg-up : (n : ℕ) → (up (negsuc n) ≡ 0) × (dn (negsuc n) ≡ suc n)
+unfolding up dn
+neg-up n = (refl, refl)
 
 -- the magnitude of a number that is not negative
 pub abs-up : (z : ℤ) → dn z ≤ up z → natAbs z + dn z ≡ up z
@@ -150,11 +170,16 @@ unfolding up dn
 abs-up (pos n) h = omega arith
 abs-up (negsuc n) h = absurd (omega arith)
 
+-- one less
 pub pred-up : (z : ℤ) → up (predℤ z) + dn z + 1 ≡ dn (predℤ z) + up z
 unfolding up dn
 pred-up (pos zero) = omega arith
 pred-up (pos (suc n)) = omega arith
 pred-up (negsuc n) = omega arith
+
+-- one more
+pub next-up : (z : ℤ) → up (z +ℤ pos 1) + dn z ≡ dn (z +ℤ pos 1) + up z + 1
+next-up z = omega (arith, add-up z (pos 1), pos-up 1)
 
 -- ---- The range
 
@@ -163,6 +188,12 @@ pub mag-most : (z : ℤ) (n : ℕ) → up z ≤ dn z + n → dn z ≤ up z + n �
 unfolding up dn
 mag-most (pos m) n g h = omega arith
 mag-most (negsuc m) n g h = omega arith
+
+-- a number of 32 bits is less than 2^31 above 0 and at most 2^31 below
+pub bits-up : (z : ℤ) → mag z < 2 ^ 31 → (up z < dn z + 2 ^ 31) × (dn z ≤ up z + 2 ^ 31)
+unfolding up dn
+bits-up (pos n) h = (omega arith, omega arith)
+bits-up (negsuc n) h = (omega arith, omega arith)
 
 -- a number in range is at most 10^9 above 0 and at most 10^9 below
 pub range-up : (z : ℤ) → inRange z ≡ true → (up z ≤ dn z + 1_000_000_000) × (dn z ≤ up z + 1_000_000_000)

@@ -9,24 +9,29 @@ use Rattle.plane.proofs.Bools.{clash, by, iff, and-parts, xor-self, xor
 use Rattle.plane.proofs.Sums.{sum-zero, any-find, any-in, count-sum, count-in, count-none}
 
 module _ {A : Type 0} where
+  -- of no elements
   pub odd-none-of : (f : A → Bool) → odd f [] ≡ false
   unfolding odd
   odd-none-of f = refl
 
+  -- with one more element
   pub odd-cons : (f : A → Bool) (a : A) (l : List A) → odd f (a ∷ l) ≡ xor (f a) (odd f l)
   unfolding odd
   odd-cons f a l = refl
 
+  -- a parity is that of a sum
   pub odd-sum : (f : A → Bool) (l : List A) → odd f l ≡ isOdd (sum (λ a. bit (f a)) l)
   unfolding sum odd isOdd
   odd-sum f [] = refl
   odd-sum f (a ∷ l) = rw (odd-sum f l) (sym (isOdd-bit (f a) _))
 
+  -- tests that are equal on the elements
   pub odd-cong : (f g : A → Bool) (l : List A) → ((a : A) → In a l → f a ≡ g a) → odd f l ≡ odd g l
   unfolding odd
   odd-cong f g [] h = refl
   odd-cong f g (a ∷ l) h = rw (h a (head refl), odd-cong f g l (λ b m. h b (tail m)))
 
+  -- where none passes
   pub odd-none : (f : A → Bool) (l : List A) → ((a : A) → In a l → f a ≡ false) → odd f l ≡ false
   unfolding isOdd
   odd-none f l h = odd-sum f l ∙ ap isOdd (sum-zero (λ a. bit (f a)) l (λ a m. ap bit (h a m)))
@@ -36,6 +41,7 @@ module _ {A : Type 0} where
   unfolding isOdd
   odd-find f l e = any-find f l (by (any f l) (λ n. clash e (odd-sum f l ∙ ap isOdd (sym (count-sum f l) ∙ count-none f l n))))
 
+  -- one list after another
   pub odd-append : (f : A → Bool) (l m : List A) → odd f (l ++ m) ≡ xor (odd f l) (odd f m)
   unfolding odd
   odd-append f [] m = sym (false-xor (odd f m))
@@ -50,6 +56,7 @@ module _ {A : Type 0} where
   unfolding odd
   odd-rest f a l m e = sym (xor-back (f a) (odd f l)) ∙ ap (xor (f a)) e ∙ xor-back (f a) (odd f m)
 
+  -- of two tests, exclusive or
   pub odd-xor : (f g : A → Bool) (l : List A) → odd (λ a. xor (f a) (g a)) l ≡ xor (odd f l) (odd g l)
   unfolding odd
   odd-xor f g [] = sym (xor-self false)

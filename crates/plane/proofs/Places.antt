@@ -1,13 +1,15 @@
--- Tests at the places of a list, and what they say of its elements: every element passes, no point stands twice, and
--- every line of points is even.
+-- What stands at the places of a list and in a stretch of it; tests at its places, and what they say of its elements: every element
+-- passes, no point stands twice, and every line of points is even.
 use mathlib.Core.Path.{_≡_, refl, sym, ap, _∙_, subst}
 use mathlib.Core.Logic.{_↔_, Iff·trans}
 use Prim.Native.Nat.{ℕ, zero, suc, _+_, _-_, _≤_, _<_}
+use native.Mathlib.Nat.{sub-zero}
+use native.Mathlib.Numerals.{add-one}
 use native.Mathlib.Omega.{arith}
 use mathlib.Core.Bool.{Bool, true, false, not, cond}
 use mathlib.Core.List.{List, [], _∷_, _++_, List·Memᴰ as In, List·Memᴰ·head as head, List·Memᴰ·tail as tail}
-use lib.ListN.{length, getD, take, drop, set, drop-of-length-le}
-use lib.Seq.{take-suc, drop-cons, set-split}
+use lib.ListN.{length, getD, take, drop, set, drop-of-length-le, length-set, length-take, length-drop}
+use lib.Seq.{take-nil, take-suc, take-set-lt, length-take-le, drop-cons, drop-drop, drop-set-lt, getD-take, getD-set-same, set-split}
 use lib.IntN.{ℤ}
 use borrow.Author.Tests.{not-false}
 use Rattle.plane.specs.declared.Point.{Point}
@@ -41,6 +43,14 @@ module _ {A : Type 0} where
   pub set-last : (l : List A) (j : ℕ) (a : A) → length l ≡ j + 1 → set l j a ≡ take j l ++ (a ∷ [])
   set-last l j a e = set-split l j a (omega arith) ∙ ap (λ (m : List A). take j l ++ (a ∷ m)) (drop-of-length-le l {i = suc j} (omega arith))
 
+  -- an element set at a place is the first from there on
+  pub set-first : (l : List A) (i : ℕ) (a : A) → i < length l → drop i (set l i a) ≡ a ∷ drop (suc i) l
+  set-first l i a h = drop-cons (set l i a) i a (simp length-set h) ∙ rw (getD-set-same l i a a h, drop-set-lt (suc i) l i a (omega arith))
+
+  -- after the first of those from a place on come those from the next place on
+  pub rest-next : (l : List A) (i : ℕ) {a : A} {later : List A} → drop i l ≡ a ∷ later → (i < length l) × (drop (i + 1) l ≡ later)
+  rest-next l i e = (omega (arith, length-drop i l, ap length e), sym (drop-drop 1 i l) ∙ ap (drop 1) e)
+
   -- a fact of what stands at every place is a fact of every element
   pub at-every-place : (P : A → Type 0) (l : List A) (d : A) → ((i : ℕ) → i < length l → P (getD l i d)) ↔ ((a : A) → In a l → P a)
   at-every-place P l d = (λ h a m. let r = at-in d m in subst P (r .2) (h (r .0) (r .1)), λ h i k. h (getD l i d) (in-at l i d k))
@@ -62,6 +72,28 @@ module _ {A : Type 0} where
         clash e (subst (λ z. odd (f z) l ≡ false) (is b (r .0) (r .2)) k)),
     λ h i k. h (key (getD l i d)),
   )
+
+-- ---- A stretch of a list
+
+module _ {A : Type 0} where
+  -- a stretch of a list is its first element and the rest
+  pub stretch-next : (l : List A) (i m : ℕ) (d : A) → i < m → m ≤ length l → drop i (take m l) ≡ getD l i d ∷ drop (i + 1) (take m l)
+  stretch-next l i m d h w = rw add-one (drop-cons (take m l) i d (omega (arith, length-take-le m l w)) ∙ rw (getD-take m l i d h))
+
+  -- from its end on it is empty
+  pub stretch-none : (l : List A) (i m : ℕ) → m ≤ i → drop i (take m l) ≡ []
+  stretch-none l i m h = drop-of-length-le (take m l) {i = i} (omega (arith, length-take m l))
+
+  -- an element set before it does not change it
+  pub stretch-set : (l : List A) (i j m : ℕ) (a : A) → i < j → i < m → drop j (take m (set l i a)) ≡ drop j (take m l)
+  stretch-set l i j m a h w = ap (drop j) (take-set-lt m l i a w) ∙ drop-set-lt j (take m l) i a h
+
+  -- it is the start of what is from its first place on
+  pub stretch-start : (l : List A) (i m : ℕ) → drop i (take m l) ≡ take (m - i) (drop i l)
+  stretch-start l zero m = rw sub-zero
+  stretch-start l (suc i) zero = let e : 0 - suc i ≡ 0 = omega arith in rw e
+  stretch-start [] (suc i) (suc m) = sym (take-nil (suc m - suc i))
+  stretch-start (a ∷ l) (suc i) (suc m) = let e : suc m - suc i ≡ m - i = omega arith in rw e (stretch-start l i m)
 
 -- ---- Rows and columns
 

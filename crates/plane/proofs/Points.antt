@@ -1,26 +1,29 @@
 -- Laws of points: when two are the same, and the order of y, then x.
-use mathlib.Core.Path.{_≡_, refl, ap, _∙_}
-use Prim.Native.Nat.{_≤_}
+use mathlib.Core.Path.{_≡_, refl, sym, ap, _∙_}
+use Prim.Native.Nat.{_+_, _≤_}
+use native.Mathlib.Omega.{arith}
 use mathlib.Core.Bool.{Bool, true, false, not, _&&_, _||_, xor, true≢false, false≢true, or-true, and-true, and-false}
-use mathlib.Core.List.{List, Memᴰ·cast, List·Memᴰ as In}
+use mathlib.Core.List.{List, _∷_, Memᴰ·cast, List·Memᴰ as In}
 use lib.IntN.{ℤ}
 use lib.Signed.{leZ, ltZ}
 use Rattle.plane.specs.declared.Point.{Point}
-use Rattle.plane.specs.Lists.{any, count, odd}
+use Rattle.plane.specs.Lists.{bit, any, count, odd, sum}
 use Rattle.plane.specs.Words.{eqZ, same, before}
 use Rattle.plane.proofs.Order.{order, eqZ-is, eqZ-refl}
-use Rattle.plane.proofs.Bools.{clash, by, and-parts, and-make, xor-back}
-use Rattle.plane.proofs.Sums.{any-find}
+use Rattle.plane.proofs.Bools.{clash, by, by-no, and-parts, and-make, xor-back}
+use Rattle.plane.proofs.Sums.{any-find, count-sum, count-in}
 use Rattle.plane.proofs.Parity.{odd-cong, odd-none, odd-split, odd-one}
 
 -- ---- The same point
 
+-- points that pass the test are equal
 pub same-is : (p q : Point) → same p q ≡ true → p ≡ q
 unfolding same
 same-is p q e =
     let h = and-parts (eqZ (p .x) (q .x)) (eqZ (p .y) (q .y)) e in
     λ i. record { x = eqZ-is (p .x) (q .x) (h .0) i; y = eqZ-is (p .y) (q .y) (h .1) i }
 
+-- a point passes it with itself
 pub same-refl : (p : Point) → same p p ≡ true
 unfolding same
 same-refl p = and-make _ _ (eqZ-refl (p .x)) (eqZ-refl (p .y))
@@ -44,15 +47,33 @@ odd-without f {k} {ps} n o = ap (xor (f k)) (odd-split (same k) f ps ∙ ap (λ 
     alone : odd (λ q. same k q && f q) ps ≡ f k
     alone = odd-cong _ (λ q. same k q && f k) ps (λ q i. at-k q (same k q) refl) ∙ either (f k)
 
+-- ---- Points of which none stands twice
+
+module _ (p : Point) (ps : List Point) (once : (q : Point) → count (same q) (p ∷ ps) ≤ 1) where
+  -- how often a point stands: as the first, and among the others
+  counts : (q : Point) → count (same q) (p ∷ ps) ≡ bit (same q p) + count (same q) ps
+  unfolding sum
+  counts q = omega (arith, count-sum (same q) (p ∷ ps), count-sum (same q) ps)
+
+  -- the others stand once
+  pub once-rest : (q : Point) → count (same q) ps ≤ 1
+  once-rest q = omega (arith, once q, counts q)
+
+  -- and are not the first
+  pub once-apart : {q : Point} → In q ps → same q p ≡ false
+  once-apart {q} m = by-no (same q p) (λ e. omega (arith, once q, counts q, ap bit e, count-in (same q) m (same-refl q)))
+
 -- ---- The order: q is k or comes after it
 
 pub data After (q k : Point) : Type 0 where
   above : ltZ (k .y) (q .y) ≡ true → After q k
   along : q .y ≡ k .y → leZ (k .x) (q .x) ≡ true → After q k
 
+-- every point is at or after itself
 pub after-refl : (q : Point) → After q q
 after-refl q = along refl (omega order)
 
+-- what is at or after a second point is so of a third that the second is at or after
 pub after-trans : {q r k : Point} → After q r → After r k → After q k
 after-trans (above h) (above g) = above (omega order)
 after-trans (above h) (along e g) = above (omega order)
@@ -64,6 +85,7 @@ pub after-row : {q k : Point} → After q k → leZ (k .y) (q .y) ≡ true
 after-row (above h) = omega order
 after-row (along e h) = omega order
 
+-- a point that is not before another is it or comes after it
 pub after-no : (q k : Point) → before q k ≡ false → After q k
 unfolding before
 after-no q k = go (ltZ (q .y) (k .y)) refl (eqZ (q .y) (k .y)) refl
@@ -73,6 +95,7 @@ after-no q k = go (ltZ (q .y) (k .y)) refl (eqZ (q .y) (k .y)) refl
     go false h true g e = along (omega order) (omega order)
     go false h false g e = above (omega order)
 
+-- a point that another is before comes after that
 pub after-yes : (q k : Point) → before q k ≡ true → After k q
 unfolding before
 after-yes q k = go (ltZ (q .y) (k .y)) refl (eqZ (q .y) (k .y)) refl
@@ -107,6 +130,18 @@ before-above k q h = rw h
 pub before-along : (x x′ y : ℤ) → ltZ x x′ ≡ true → before (record { x = x; y = y }) (record { x = x′; y = y }) ≡ true
 unfolding before
 before-along x x′ y h = rw (eqZ-refl y, h) (or-true (ltZ y y))
+
+-- a point of a row comes before every point not below the row that, on it, is further right
+pub before-all : (x y : ℤ) (q : Point) → leZ y (q .y) ≡ true → (q .y ≡ y → ltZ x (q .x) ≡ true) → before (record { x = x; y = y }) q ≡ true
+before-all x y q h f = by (before (record { x = x; y = y }) q) (λ n. go (after-no (record { x = x; y = y }) q n))
+  where
+    go : After (record { x = x; y = y }) q → ⊥
+    go (above l) = omega order
+    go (along e l) = let r = f (sym e) in omega order
+
+-- a point that comes before another is not the same
+pub before-apart : (p q : Point) → before p q ≡ true → (same p q ≡ false) × (same q p ≡ false)
+before-apart p q b = (by-no (same p q) (λ e. clash (rw (same-is p q e) at b) (before-self q)), by-no (same q p) (λ e. clash (rw (same-is q p e) at b) (before-self p)))
 
 -- of two points that are not the same, one comes before the other
 pub before-connected : (p q : Point) → before p q ≡ false → same p q ≡ false → before q p ≡ true

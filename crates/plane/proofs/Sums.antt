@@ -1,18 +1,21 @@
--- Sums of a weight over a list, and what passes a test: any, how many.
-use mathlib.Core.Path.{_≡_, refl, ap, ap₂, sym, _∙_}
+-- Sums of a weight over a list, what holds of all its elements, and what passes a test: any, how many; sums over the numbers below n.
+use mathlib.Core.Path.{_≡_, refl, ap, ap₂, fun-ext, sym, _∙_, subst}
+use mathlib.Core.Logic.{⊎-elim}
 use Prim.Native.Nat.{ℕ, zero, suc, _+_, _-_, _*_, _≤_, _<_}
+use native.Mathlib.Numerals.{add-one}
 use native.Mathlib.Omega.{arith}
 use native.Mathlib.Decide.{ℕ-discrete}
 use mathlib.Core.Bool.{Bool, true, false, cond, _&&_, _||_, false≢true, or-false, or-assoc}
-use mathlib.Core.List.{List, [], _∷_, _++_, List·Memᴰ as In, List·Memᴰ·head as head, List·Memᴰ·tail as tail}
+use mathlib.Core.List.{List, [], _∷_, _++_, List·Memᴰ as In, List·Memᴰ·head as head, List·Memᴰ·tail as tail, List·Memᴰ·append-cases as append-cases, List·Memᴰ·eq-of-singleton as eq-of-singleton}
 use lib.ListN.{length, getD, take, drop, set, take-append-drop, length-set}
-use lib.Seq.{getD-set-same, getD-set-other}
-use Rattle.plane.specs.Lists.{bit, any, count, sum, keep, only}
+use lib.Seq.{take-suc, take-length, getD-set-same, getD-set-other}
+use Rattle.plane.specs.Lists.{bit, any, count, sum, keep, only, sumBelow}
 use Rattle.plane.proofs.Bools.{by, cond-le, or-parts, or-right}
 
 module _ {A : Type 0} where
   -- ---- Sums
 
+  -- one list after another
   pub sum-append : (w : A → ℕ) (l m : List A) → sum w (l ++ m) ≡ sum w l + sum w m
   unfolding sum
   sum-append w [] m = omega arith
@@ -27,12 +30,14 @@ module _ {A : Type 0} where
   unfolding sum
   sum-last-added w l a = omega (arith, sum-append w l (a ∷ []))
 
+  -- with another element set at a place
   sum-set : (w : A → ℕ) (l : List A) (i : ℕ) (a d : A) → i < length l → sum w (set l i a) + w (getD l i d) ≡ sum w l + w a
   unfolding sum
   sum-set w [] i a d h = absurd (omega arith)
   sum-set w (x ∷ xs) zero a d h = omega arith
   sum-set w (x ∷ xs) (suc i) a d h = let ih = sum-set w xs i a d (omega arith) in omega arith
 
+  -- without the last element, and this
   sum-last : (w : A → ℕ) (l : List A) (d : A) (j : ℕ) → length l ≡ suc j → sum w (take j l) + w (getD l j d) ≡ sum w l
   unfolding sum
   sum-last w [] d j e = absurd (omega arith)
@@ -40,6 +45,7 @@ module _ {A : Type 0} where
   sum-last w (x ∷ y ∷ l) d zero e = absurd (omega arith)
   sum-last w (x ∷ xs) d (suc j) e = let ih = sum-last w xs d j (omega arith) in omega arith
 
+  -- an element of a list set elsewhere in it still stands at its own place
   last-set : (l : List A) (i j : ℕ) (d : A) → i < length l → getD (set l i (getD l j d)) j d ≡ getD l j d
   last-set l i j d h = go (ℕ-discrete j i)
     where
@@ -63,36 +69,49 @@ module _ {A : Type 0} where
       let v : A = getD l j d in
       omega (arith, sum-set w l i v d h, sum-set w (set l i v) j (getD l i d) d (rw length-set g), ap w (last-set l i j d h))
 
+  -- an element weighs at most the sum
   pub sum-in : (w : A → ℕ) {l : List A} {a : A} → In a l → w a ≤ sum w l
   unfolding sum
   sum-in w {l = b ∷ l} {a} (head e) = let c : w a ≡ w b = ap w e in omega arith
   sum-in w {l = b ∷ l} (tail m) = let h = sum-in w m in omega arith
 
+  -- with at most c for each
   pub sum-most : (w : A → ℕ) (c : ℕ) (l : List A) → ((a : A) → In a l → w a ≤ c) → sum w l ≤ length l * c
   unfolding sum
   sum-most w c [] h = omega arith
   sum-most w c (a ∷ l) h = let i = sum-most w c l (λ b m. h b (tail m)) in let j = h a (head refl) in omega arith
 
+  -- with 0 for each
   pub sum-zero : (w : A → ℕ) (l : List A) → ((a : A) → In a l → w a ≡ 0) → sum w l ≡ 0
   sum-zero w l h = let k = sum-most w 0 l (λ a m. omega (arith, h a m)) in omega arith
 
+  -- weights that are equal on the elements
   pub sum-cong : (u v : A → ℕ) (l : List A) → ((a : A) → In a l → u a ≡ v a) → sum u l ≡ sum v l
   unfolding sum
   sum-cong u v [] h = refl
   sum-cong u v (a ∷ l) h = ap₂ _+_ (h a (head refl)) (sum-cong u v l (λ b m. h b (tail m)))
 
+  -- two weights added
   pub sum-add : (u v : A → ℕ) (l : List A) → sum (λ a. u a + v a) l ≡ sum u l + sum v l
   unfolding sum
   sum-add u v [] = omega arith
   sum-add u v (a ∷ l) = let ih = sum-add u v l in omega arith
 
+  -- with 1 for each
   pub sum-length : (l : List A) → sum (λ a. 1) l ≡ length l
   unfolding sum
   sum-length [] = refl
   sum-length (a ∷ l) = let h = sum-length l in omega arith
 
+  -- ---- What holds of all
+
+  -- with one more element at the end
+  pub all-last-added : (P : A → Type 0) (l : List A) (a : A) → ((b : A) → In b l → P b) → P a → (b : A) → In b (l ++ (a ∷ [])) → P b
+  all-last-added P l a h g b m = ⊎-elim (h b) (λ (n : In b (a ∷ [])). subst P (sym (eq-of-singleton n)) g) (append-cases l m)
+
   -- ---- Some element passes
 
+  -- where some element passes, one that does
   pub any-find : (f : A → Bool) (l : List A) → any f l ≡ true → (a : A) × In a l × (f a ≡ true)
   unfolding any
   any-find f [] e = absurd (false≢true e)
@@ -102,6 +121,7 @@ module _ {A : Type 0} where
       go ih true h e = (a, head refl, h)
       go ih false h e = let r = ih e in (r .0, tail (r .1), r .2)
 
+  -- where an element passes, some does
   pub any-in : (f : A → Bool) {l : List A} {a : A} → In a l → f a ≡ true → any f l ≡ true
   unfolding any
   any-in f {l = b ∷ l} (head e) h = rw (← e, h)
@@ -125,6 +145,7 @@ module _ {A : Type 0} where
 
   -- ---- How many pass
 
+  -- a count is a sum
   pub count-sum : (f : A → Bool) (l : List A) → count f l ≡ sum (λ a. bit (f a)) l
   unfolding sum count
   count-sum f [] = refl
@@ -134,6 +155,7 @@ module _ {A : Type 0} where
       go ih true = omega arith
       go ih false = omega arith
 
+  -- where an element passes, at least one does
   pub count-in : (f : A → Bool) {l : List A} {a : A} → In a l → f a ≡ true → 1 ≤ count f l
   count-in f {l} {a} m h = let e : bit (f a) ≡ 1 = ap bit h in omega (arith, count-sum f l, sum-in (λ b. bit (f b)) m)
 
@@ -143,14 +165,17 @@ module _ {A : Type 0} where
   count-none f [] e = refl
   count-none f (a ∷ l) e = let h = or-parts (f a) (any f l) e in rw (h .0) (count-none f l (h .1))
 
+  -- where at least one passes, one that does
   pub count-find : (f : A → Bool) (l : List A) → 1 ≤ count f l → (a : A) × In a l × (f a ≡ true)
   count-find f l h = any-find f l (by (any f l) (λ e. let z = count-none f l e in omega arith))
 
+  -- a wider test counts no less
   pub count-mono : (f g : A → Bool) (l : List A) → ((a : A) → In a l → f a ≡ true → g a ≡ true) → count f l ≤ count g l
   unfolding count
   count-mono f g [] s = omega arith
   count-mono f g (a ∷ l) s = cond-le (f a) (g a) (s a (head refl)) (count-mono f g l (λ b m. s b (tail m)))
 
+  -- no more pass than there are
   pub count-length : (f : A → Bool) (l : List A) → count f l ≤ length l
   unfolding count
   count-length f [] = omega arith
@@ -207,3 +232,67 @@ module _ {A : Type 0} where
   unfolding only
   only-none f [] h = refl
   only-none f (a ∷ l) h = rw (h a (head refl)) (only-none f l (λ b m. h b (tail m)))
+
+-- ---- Sums over the numbers below n
+
+-- equal weights have equal sums
+pub below-cong : (n : ℕ) {u v : ℕ → ℕ} → ((i : ℕ) → u i ≡ v i) → sumBelow n u ≡ sumBelow n v
+below-cong n h = ap (sumBelow n) (fun-ext h)
+
+-- weights of at most c
+pub below-most : (n c : ℕ) (u : ℕ → ℕ) → ((i : ℕ) → u i ≤ c) → sumBelow n u ≤ n * c
+unfolding sumBelow
+below-most zero c u h = omega arith
+below-most (suc n) c u h = let ih = below-most n c u h in omega (arith, h n)
+
+-- weights of 0
+below-zero : (n : ℕ) → sumBelow n (λ i. 0) ≡ 0
+below-zero n = omega (arith, below-most n 0 (λ i. 0) (λ i. omega arith))
+
+-- sums over a list, added up the other way round
+pub below-sum : {A : Type 0} (n : ℕ) (w : ℕ → A → ℕ) (l : List A) → sumBelow n (λ i. sum (w i) l) ≡ sum (λ a. sumBelow n (λ i. w i a)) l
+unfolding sumBelow
+below-sum zero w l = sym (sum-zero (λ a. 0) l (λ a m. refl))
+below-sum (suc n) w l = ap (λ k. sum (w n) l + k) (below-sum n w l) ∙ sym (sum-add (w n) (λ a. sumBelow n (λ i. w i a)) l)
+
+-- the pairs of which both sides pass their test
+pub below-pairs : (f g : ℕ → Bool) (n m : ℕ) → sumBelow n (λ i. sumBelow m (λ j. bit (f i && g j))) ≡ sumBelow n (λ i. bit (f i)) * sumBelow m (λ j. bit (g j))
+unfolding sumBelow
+below-pairs f g zero m = omega arith
+below-pairs f g (suc n) m = go (f n) _ _ (below-pairs f g n m)
+  where
+    go : (b : Bool) (p q : ℕ) → p ≡ q * sumBelow m (λ j. bit (g j)) → sumBelow m (λ j. bit (b && g j)) + p ≡ (bit b + q) * sumBelow m (λ j. bit (g j))
+    go true p q ih = omega arith
+    go false p q ih = omega (arith, below-zero m)
+
+-- with one more number
+pub below-next : (n : ℕ) (w : ℕ → ℕ) → sumBelow (n + 1) w ≡ w n + sumBelow n w
+unfolding sumBelow
+below-next n w = rw add-one
+
+module _ (w : ℕ → ℕ) where
+  -- below d numbers more the sum is no less
+  below-add : (m d : ℕ) → sumBelow m w ≤ sumBelow (m + d) w
+  unfolding sumBelow
+  below-add m zero = let e : m + 0 ≡ m = omega arith in rw e (omega arith)
+  below-add m (suc d) = let e : m + suc d ≡ suc (m + d) = omega arith in rw e (omega (arith, below-add m d))
+
+  -- so it is for any larger number
+  pub below-grows : {m n : ℕ} → m ≤ n → sumBelow m w ≤ sumBelow n w
+  below-grows {m} {n} h = let e : m + (n - m) ≡ n = omega arith in rw e at (below-add m (n - m))
+
+  -- nor is it less than the weight of one of them
+  pub below-has : {i n : ℕ} → i < n → w i ≤ sumBelow n w
+  unfolding sumBelow
+  below-has {i} {n} h = let g : sumBelow (suc i) w ≤ sumBelow n w = below-grows h in omega arith
+
+  module _ {A : Type 0} (f : A → ℕ) (l : List A) (d : A) (same : (i : ℕ) → i < length l → w i ≡ f (getD l i d)) where
+    -- where each number weighs what stands at its place in a list, the sum is that over the list's start
+    below-first : (n : ℕ) → n ≤ length l → sumBelow n w ≡ sum f (take n l)
+    unfolding sumBelow sum
+    below-first zero h = refl
+    below-first (suc n) h = rw (take-suc l n d h) (omega (arith, below-first n (omega arith), same n h, sum-last-added f (take n l) (getD l n d)))
+
+    -- and that over the list
+    pub below-list : sumBelow (length l) w ≡ sum f l
+    below-list = below-first (length l) (omega arith) ∙ ap (sum f) (take-length l)

@@ -1,2 +1,7 @@
 pub mod Screens
+pub mod Raised
+pub mod Neighbours
 pub mod Outcomes
+pub mod Keys
+pub mod Settling
+pub mod Orders

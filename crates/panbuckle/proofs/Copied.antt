@@ -10,9 +10,10 @@ use Rattle.plane.specs.Words.{pointsOf}
 use Rattle.plane.proofs.Arrays.{length-points, points-start}
 use Rattle.rule.specs.Answers.{workOf}
 use Rattle.rule.specs.Table.{ForwardAccepted}
-use Rattle.rule.proofs.Memory.{work-past, work-length, work-points, work-again}
+use Rattle.rule.proofs.Memory.{work-length, work-points, work-again}
 use Rattle.panbuckle.specs.Contracts.{copied}
-use Rattle.panbuckle.specs.Inner.{held, Holds}
+use Rattle.panbuckle.specs.Inner.{held}
+use Rattle.panbuckle.proofs.Taking.{Holds}
 
 module _ (a work : List ℤ) where
   -- it is the working array with the array's points
@@ -27,10 +28,6 @@ module _ (a work : List ℤ) where
   -- drained, it is the working array drained
   pub copied-drained : workOf (length a / 2) [] (copied a work) ≡ workOf (length a / 2) [] work
   copied-drained = rw copied-is (work-again (length a / 2) (length a / 2) (pointsOf a) [] work (omega (arith, length-points a)) (omega arith) (omega arith))
-
-  -- a copy into the working array drained is a copy into the working array
-  pub copied-again : copied a (workOf (length a / 2) [] work) ≡ copied a work
-  copied-again = rw (work-past (length a / 2) [] work (omega arith))
 
   -- of points that forward accepts, it holds accepted points
   pub copied-holds : {out : ℕ} → ForwardAccepted a (length work) out → Holds (copied a work) (length a / 2)

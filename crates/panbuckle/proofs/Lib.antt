@@ -1,10 +1,8 @@
 pub mod Scan
-pub mod BeforeRoom
-pub mod Copied
 pub mod Toggling
 pub mod Taking
+pub mod Copied
 pub mod StopRow
-pub mod Walk
 pub mod Outcomes
 pub mod Kept
 pub mod BothWays

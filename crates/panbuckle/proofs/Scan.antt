@@ -1,14 +1,14 @@
 -- A loop that goes through the points of an array: what is left of them at each place.
 use Prim.Native.Nat.{ℕ, _<_, _≤_, _+_, _*_}
-use native.Mathlib.Numerals.{add-one}
 use native.Mathlib.Omega.{arith}
 use mathlib.Core.Path.{_≡_}
 use mathlib.Core.List.{List, [], _∷_, _++_}
-use lib.ListN.{length, take, drop, drop-of-length-le}
-use lib.Seq.{drop-cons, getD-take, length-take-le, take-take}
+use lib.ListN.{length, take, drop}
+use lib.Seq.{getD-take, length-take-le, take-take}
 use lib.IntN.{ℤ}
 use Rattle.plane.specs.Words.{pointsOf, origin}
 use Rattle.plane.proofs.Arrays.{length-points, points-next}
+use Rattle.plane.proofs.Places.{stretch-next, stretch-none}
 use Rattle.rule.specs.Table.{pointAt}
 use Rattle.panbuckle.specs.Inner.{held}
 
@@ -23,14 +23,11 @@ module _ (n : ℕ) (a : List ℤ) (fits : 2 * n ≤ length a) where
 
   -- at place i: the point there, and what is left after it
   pub next : (i : ℕ) → i < n → drop i (held n a) ≡ pointAt (pointsOf a) i ∷ drop (i + 1) (held n a)
-  next i l =
-      let e = held-length in
-      let m : i < length (held n a) = omega arith in
-      rw (add-one, ← held-at i l) (drop-cons (held n a) i origin m)
+  next i l = stretch-next (pointsOf a) i n origin l (omega (arith, length-points a))
 
   -- after the last, nothing
   pub ended : (i : ℕ) → n ≤ i → drop i (held n a) ≡ []
-  ended i l = let e = held-length in drop-of-length-le (held n a) {i = i} (omega arith)
+  ended i l = stretch-none (pointsOf a) i n l
 
   -- the points before the place after i
   pub held-next : (i : ℕ) → i < n → held (i + 1) a ≡ held i a ++ (pointAt (pointsOf a) i ∷ [])

@@ -21,9 +21,9 @@ use Rattle.rule.proofs.Steps.{accepted-step}
 use Rattle.rule.proofs.Bound.{rule-ends}
 use Rattle.rule.proofs.Memory.{work-length, work-points, work-again, drained-step, taken-step, forward-drained-work}
 use Rattle.panbuckle.specs.Contracts.{ForwardDone, StepDone, copied, Stepped, drained, another, Reached, at-start, onward}
-use Rattle.panbuckle.specs.Inner.{held, Holds}
+use Rattle.panbuckle.specs.Inner.{held}
 use Rattle.panbuckle.proofs.Scan.{held-length}
-use Rattle.panbuckle.proofs.Taking.{holds-ready}
+use Rattle.panbuckle.proofs.Taking.{Holds, holds-ready}
 use Rattle.panbuckle.proofs.Copied.{copied-points, copied-drained, copied-holds}
 use Rattle.panbuckle.proofs.Outcomes.{step-one-outcome}
 

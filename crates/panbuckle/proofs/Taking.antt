@@ -1,6 +1,6 @@
 -- A step of points that a working array holds: what it is ready for; and, begun, its K, L and M, how many points each toggle leaves,
 -- and what it gives.
-use Prim.Native.Nat.{ℕ, _≤_, _<_}
+use Prim.Native.Nat.{ℕ, _*_, _≤_, _<_}
 use native.Mathlib.Omega.{arith}
 use mathlib.Core.Path.{sym}
 use mathlib.Core.List.{List}
@@ -14,11 +14,17 @@ use Rattle.rule.specs.Rule.{pickM, rectOf, toggle, toggleFour, takeRect, step}
 use Rattle.rule.specs.Answers.{workOf}
 use Rattle.rule.proofs.Picks.{Picked, picks-some}
 use Rattle.rule.proofs.Steps.{step-lengths, step-sides}
-use Rattle.rule.specs.Table.{StepAccepted}
+use Rattle.rule.specs.Table.{Accepted, StepAccepted}
 use Rattle.rule.proofs.Memory.{taken-step}
-use Rattle.panbuckle.specs.Inner.{held, Holds, Begun}
+use Rattle.panbuckle.specs.Inner.{held, Begun}
 use Rattle.panbuckle.specs.Contracts.{StepDone}
 use Rattle.panbuckle.proofs.Scan.{held-length}
+
+-- a working array that holds n accepted points
+pub record Holds (work : List ℤ) (n : ℕ) : Type 0 where
+  pub few : n ≤ 4096
+  pub working : 2 * n ≤ length work
+  pub points : Accepted (held n work)
 
 -- one accepted point or more is what a step accepts
 pub holds-ready : {work : List ℤ} {n : ℕ} → Holds work n → 0 < n → StepAccepted work n

@@ -1,18 +1,17 @@
 -- What the private functions speak of. No caller needs these definitions: the promises are in Contracts.
-use Prim.Native.Nat.{ℕ, _+_, _*_, _/_, _≤_}
+use Prim.Native.Nat.{ℕ, _+_, _*_, _≤_}
 use mathlib.Core.Path.{_≡_}
 use mathlib.Core.Bool.{Bool, true, false, cond, _&&_}
-use mathlib.Core.List.{List, _∷_, List·Memᴰ as In}
+use mathlib.Core.List.{List, List·Memᴰ as In}
 use lib.ListN.{length, take, set}
 use lib.IntN.{ℤ}
 use lib.Signed.{leZ, ltZ}
 use lib.Dec.{ltb}
 use Rattle.plane.specs.declared.Point.{Point}
-use Rattle.plane.specs.declared.Rect.{Rect}
 use Rattle.plane.specs.Lists.{count, odd}
 use Rattle.plane.specs.Words.{same, pointsOf}
 use Rattle.rule.specs.Rule.{pickK, pickL, rightOf, toggle}
-use Rattle.rule.specs.Table.{Check, Accepted, LENGTH, MANY, WORK, pointChecks, StepAccepted}
+use Rattle.rule.specs.Table.{StepAccepted}
 use Rattle.panbuckle.specs.declared.Seek.{Seek}
 use Rattle.panbuckle.specs.declared.Seek.the-variants.{Any, RightOf, Over}
 
@@ -26,19 +25,9 @@ held n a = take n (pointsOf a)
 abbrev pub put : List ℤ → ℕ → Point → List ℤ
 put a i p = set (set a (2 * i) (p .x)) (2 * i + 1) (p .y)
 
--- an array with a rectangle put at place i
-abbrev pub putRect : List ℤ → ℕ → Rect → List ℤ
-putRect a i r = set (set (set (set a (4 * i) (r .x)) (4 * i + 1) (r .y)) (4 * i + 2) (r .w)) (4 * i + 3) (r .h)
-
 -- the greater of two numbers
 abbrev pub most : ℕ → ℕ → ℕ
 most m n = cond (ltb m n) n m
-
--- a working array that holds n accepted points
-pub record Holds (work : List ℤ) (n : ℕ) : Type 0 where
-  pub few : n ≤ 4096
-  pub working : 2 * n ≤ length work
-  pub points : Accepted (held n work)
 
 -- ---- K, L and the width
 
@@ -87,9 +76,3 @@ pub record OddBeside (k low end : Point) (ps rows : List Point) : Type 0 where
 pub record Between (low m end : Point) : Type 0 where
   pub above : ltZ (low .y) (end .y) ≡ true
   pub not-above : leZ (end .y) (m .y) ≡ true
-
--- ---- Checks
-
--- forward's checks before the room is known: 1, 2, 3, 4, 5, 6, 7
-unfoldable pub inputChecks : (a : List ℤ) (work : ℕ) → List Check
-inputChecks a work = LENGTH (length a) 2 ∷ MANY 4096 (length a / 2) ∷ WORK work (length a / 2) ∷ pointChecks (pointsOf a)

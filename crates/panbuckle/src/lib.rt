@@ -3,20 +3,19 @@
 // specs/Contracts.antt of each; the rule, the refusals and the answers are the definitions of the crate `rule`.
 ghost use mathlib.Core.Path.{_≡_};
 ghost use mathlib.Core.Bool.{cond, true, false};
-ghost use mathlib.Core.List.{_++_, []};
 ghost use mathlib.Core.Option.{Option·getD};
 ghost use mir.Syntax.{w32};
 ghost use mir.Val.{SFits};
 ghost use lib.IntN.{_-ℤ_};
 ghost use lib.Signed.{ltZ};
-ghost use lib.ListN.{length, take, drop};
-ghost use Prim.Native.Nat.{_+_, _*_, _/_, _<_, _≤_};
-ghost use Rattle.plane.specs.Words.{origin, same, before, pointsOf, flat, areaOf, edgeOf, flatRects};
-ghost use Rattle.rule.specs.Rule.{firstOf, rightOf, placeOf, pickM, rectOf, toggle, toggleFour, ruleList};
-ghost use Rattle.rule.specs.Table.{accepted, pointAt, verdict, stepChecks, ForwardAccepted};
-ghost use Rattle.rule.specs.Answers.{workOf, forwardSays, written};
+ghost use lib.ListN.{length};
+ghost use Prim.Native.Nat.{_+_, _*_, _<_, _≤_};
+ghost use Rattle.plane.specs.Words.{origin, same, before, pointsOf};
+ghost use Rattle.rule.specs.Rule.{firstOf, rightOf, placeOf, pickM, rectOf, toggle, toggleFour};
+ghost use Rattle.rule.specs.Table.{pointAt, verdict, stepChecks, StepAccepted};
+ghost use Rattle.rule.specs.Answers.{workOf};
 ghost use Rattle.checks.specs.Screens.{screenOf};
-ghost use Rattle.panbuckle.specs.Inner.{held, put, putRect, Holds, cross, overWidth, sought, Begun, beside, IsHighest, Toggled, OddBeside, Between, most, inputChecks};
+ghost use Rattle.panbuckle.specs.Inner.{held, put, cross, overWidth, sought, Begun, beside, IsHighest, Toggled, OddBeside, Between, most};
 ghost use Rattle.panbuckle.specs.Contracts.{ForwardDone, StepDone};
 use checks::Screen;
 use checks::check_points;
@@ -38,6 +37,7 @@ pub use rule::ROOM;
 pub use rule::ROW;
 pub use rule::StepAnswer;
 pub use rule::WORK;
+use sweep::sweep_points;
 
 // The most points that forward and a step take.
 pub const MOST_POINTS: usize = 4096;
@@ -325,17 +325,11 @@ fn reached(k: Point, l: Point, m: Point) -> Rect
     }
 }
 
-// A step of points that are known to be accepted: only DRAINED is left to be refused.
+// A step of points that are known to be accepted.
 fn take_rectangle(work: &mut [i32], n: usize) -> StepAnswer
-    requires { ⌜ Holds (now work) n ⌝ }
+    requires { ⌜ StepAccepted (now work) n ⌝ }
     ensures { λ r. ⌜ StepDone (now (work .entry)) n r (now (work .exit)) ⌝ }
 {
-    if n == 0 {
-        return StepAnswer::Refused {
-            answer: DRAINED,
-            place: 0,
-        };
-    }
     let k = first_of(work, n, Seek::Any, zero());
     let l = first_of(work, n, Seek::RightOf { k: k }, k);
     let m = stop_row(work, n, k, l);
@@ -358,23 +352,6 @@ fn refused(number: u32) -> Screen
     }
 }
 
-// Forward's checks before the room is known.
-fn check_input(points: &[i32], work: usize) -> Screen
-    ensures { λ r. ⌜ r ≡ screenOf (verdict (inputChecks (now (points .entry)) work)) ⌝ }
-{
-    let n = points.len() / 2;
-    if points.len() % 2 != 0 {
-        return refused(LENGTH);
-    }
-    if MOST_POINTS < n {
-        return refused(MANY);
-    }
-    if work < 2 * n {
-        return refused(WORK);
-    }
-    check_points(points)
-}
-
 // A step's checks.
 fn check_work(work: &[i32], n: usize) -> Screen
     ensures { λ r. ⌜ r ≡ screenOf (verdict (stepChecks (now (work .entry)) n)) ⌝ }
@@ -391,143 +368,6 @@ fn check_work(work: &[i32], n: usize) -> Screen
     check_points(&work[..2 * n])
 }
 
-// ---- The list
-
-// Copies the first n numbers.
-fn copy_in(from: &[i32], to: &mut [i32], n: usize)
-    requires { ⌜ (n ≤ length (now from)) × (n ≤ length (now to)) ⌝ }
-    ensures { λ r. ⌜ now (to .exit) ≡ take n (now (from .entry)) ++ drop n (now (to .entry)) ⌝ }
-{
-    let mut i = 0;
-    while i < n {
-        let z = from[i];
-        to[i] = z;
-        i += 1;
-    }
-}
-
-// Puts a rectangle at place i of the output.
-fn put_rect(out: &mut [i32], i: usize, r: Rect)
-    requires { ⌜ 4 * i + 3 < length (now out) ⌝ }
-    ensures { λ u. ⌜ now (out .exit) ≡ putRect (now (out .entry)) i r ⌝ }
-{
-    let x = r.x;
-    let y = r.y;
-    let w = r.w;
-    let h = r.h;
-    out[4 * i] = x;
-    out[4 * i + 1] = y;
-    out[4 * i + 2] = w;
-    out[4 * i + 3] = h;
-}
-
-fn area_of(r: Rect) -> u64
-    requires { ⌜ flat r ≡ false ⌝ }
-    ensures { λ u. ⌜ u ≡ areaOf r ⌝ }
-{
-    let w = r.w;
-    let h = r.h;
-    (w as u64) * (h as u64)
-}
-
-fn edge_of(r: Rect) -> u64
-    requires { ⌜ flat r ≡ false ⌝ }
-    ensures { λ u. ⌜ u ≡ edgeOf r ⌝ }
-{
-    let w = r.w;
-    let h = r.h;
-    2 * ((w as u64) + (h as u64))
-}
-
-// Steps until no point is left, and counts the rectangles. The step's only refusal here is DRAINED.
-fn count_rectangles(work: &mut [i32], n: usize) -> usize
-    requires { ⌜ Holds (now work) n ⌝ }
-    ensures { λ r. ⌜ r ≡ length (ruleList (held n (now (work .entry)))) ⌝ }
-    ensures { λ r. ⌜ now (work .exit) ≡ workOf n [] (now (work .entry)) ⌝ }
-{
-    let mut rest = n;
-    let mut counted: usize = 0;
-    loop {
-        match take_rectangle(work, rest) {
-            StepAnswer::Rectangle { rect: _, count } => {
-                rest = count;
-                counted += 1;
-            }
-            StepAnswer::Refused {
-                answer: _,
-                place: _,
-            } => {
-                return counted;
-            }
-        }
-    }
-}
-
-// Steps until no point is left, writes the rectangles, and sums their areas and edges.
-fn write_rectangles(work: &mut [i32], n: usize, rects: &mut [i32]) -> ForwardAnswer
-    requires { ⌜ Holds (now work) n ⌝ }
-    requires { ⌜ 4 * length (ruleList (held n (now work))) ≤ length (now rects) ⌝ }
-    ensures { λ r. ⌜ r ≡ forwardSays accepted (ruleList (held n (now (work .entry)))) ⌝ }
-    ensures { λ r. ⌜ now (work .exit) ≡ workOf n [] (now (work .entry)) ⌝ }
-    ensures { λ r. ⌜ now (rects .exit) ≡ written accepted (flatRects (ruleList (held n (now (work .entry))))) (now (rects .entry)) ⌝ }
-{
-    let mut left = n;
-    let mut made: usize = 0;
-    let mut area: u64 = 0;
-    let mut edge: u64 = 0;
-    loop {
-        match take_rectangle(work, left) {
-            StepAnswer::Rectangle { rect, count } => {
-                put_rect(rects, made, rect);
-                area += area_of(rect);
-                edge += edge_of(rect);
-                left = count;
-                made += 1;
-            }
-            StepAnswer::Refused {
-                answer: _,
-                place: _,
-            } => {
-                return ForwardAnswer {
-                    answer: DONE,
-                    place: 0,
-                    count: made,
-                    area: area,
-                    edge: edge,
-                };
-            }
-        }
-    }
-}
-
-// An answer that is a refusal.
-fn no_list(answer: u32, place: u64) -> ForwardAnswer
-    ensures { λ r. ⌜ r ≡ record { answer = answer; place = place; count = 0; area = 0; edge = 0 } ⌝ }
-{
-    ForwardAnswer {
-        answer: answer,
-        place: place,
-        count: 0,
-        area: 0,
-        edge: 0,
-    }
-}
-
-// Forward of points that are accepted: counts the rectangles, and writes only where all have room.
-fn fracture(points: &[i32], work: &mut [i32], rects: &mut [i32]) -> ForwardAnswer
-    requires { ⌜ ForwardAccepted (now points) (length (now work)) (4 * length (ruleList (pointsOf (now points)))) ⌝ }
-    ensures { λ r. ⌜ ForwardDone (now (points .entry)) (now (work .entry)) (now (rects .entry)) r (now (work .exit)) (now (rects .exit)) ⌝ }
-{
-    let n = points.len() / 2;
-    copy_in(points, work, 2 * n);
-    let needed = count_rectangles(work, n);
-    if rects.len() / 4 < needed {
-        return no_list(ROOM, needed as u64);
-    }
-    copy_in(points, work, 2 * n);
-    write_rectangles(work, n, rects)
-}
-
 // ---- The public functions
 
 // The rectangles of the array's points, written to `rects`, with their count, area and edge; or a refusal, which leaves `rects` as it
@@ -535,10 +375,7 @@ fn fracture(points: &[i32], work: &mut [i32], rects: &mut [i32]) -> ForwardAnswe
 pub fn forward(points: &[i32], work: &mut [i32], rects: &mut [i32]) -> ForwardAnswer
     ensures { λ r. ⌜ ForwardDone (now (points .entry)) (now (work .entry)) (now (rects .entry)) r (now (work .exit)) (now (rects .exit)) ⌝ }
 {
-    match check_input(points, work.len()) {
-        Screen::Clear => fracture(points, work, rects),
-        Screen::Refused { answer, place } => no_list(answer, place),
-    }
+    sweep_points(points, work, rects)
 }
 
 // One rectangle of the `count` points at the start of `work`, which then holds the points that are left, and their count; or a

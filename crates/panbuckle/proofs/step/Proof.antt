@@ -12,8 +12,7 @@ take-rectangle-requires : tie.Need-take-rectangle-requires
 take-rectangle-requires c κs =
     let s = c .before .before .before .before .before in
     let v = screen-clear (verdict (stepChecks (s .args .work .now) (s .args .count))) (sym (c .before .before .before .check-work .ensures) ∙ c .before .enum-told .given .1) in
-    let h = step-accepted (s .args .work .now) (s .args .count) .0 v in
-    record { few = h .few; working = h .working; points = h .points }
+    step-accepted (s .args .work .now) (s .args .count) .0 v
 
 returns-2 : tie.Need-returns-2
 unfolding stepAnswer stepWork

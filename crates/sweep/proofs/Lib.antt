@@ -1,0 +1,13 @@
+pub mod Lives
+pub mod Kept
+pub mod Places
+pub mod Turning
+pub mod Going
+pub mod Taking
+pub mod Meeting
+pub mod Cutting
+pub mod NextRow
+pub mod Putting
+pub mod Making
+pub mod BeforeRoom
+pub mod Outcomes

@@ -1,0 +1,13 @@
+-- `sweep::live_at` meets its contract.
+use borrow.Author.Needs.{needs}
+use Rattle.plane.proofs.Arrays.{rect-numbers}
+use Rattle.sweep.proofs.live_at.Statement.{statement}
+use Rattle.sweep.proofs.live_at.Tie as tie
+
+returns : tie.Need-returns
+returns c = let s = c .before .before .before .before .args in rw (rect-numbers (s .work .now) (s .i) (c .before .before .before .before .pre)) (search needs)
+
+pub live-at-spec : {M : Type 1} → statement M
+live-at-spec =
+    tie.close
+    (tie.spec (λ c. search needs) (λ c. search needs) (λ c. search needs) (λ c. search needs) (λ c. search needs) (λ c. search needs) (λ c. search needs) (λ c. search needs) (λ c. search needs) (λ c. search needs) (λ c. search needs) (λ c. search needs) (λ c. search needs) (λ c. search needs) (λ c. search needs) returns)

@@ -1,0 +1,124 @@
+-- `sweep::sweep_all` meets its contract. The invariant is `Making`; the measure is what is to come of the sweep.
+use Prim.Native.Nat.{_*_, _/_}
+use native.Mathlib.Omega.{arith}
+use mathlib.Core.Path.{_≡_, _∙_}
+use mathlib.Core.Bool.{false}
+use mathlib.Core.Logic.{⊎-elim}
+use lib.ListN.{length}
+use borrow.Author.Needs.{needs}
+use Rattle.plane.specs.Words.{flat, areaOf, edgeOf}
+use Rattle.rule.proofs.Area.{rule-area-most, rule-edge-fits}
+use Rattle.sweep.specs.Inner.{toCome, GoesOn, Gives, AllGiven, KeptPast}
+use Rattle.sweep.proofs.Kept.{kept-on}
+use Rattle.sweep.proofs.Making.{Making, starts-making, made-fits, output-length, goes-on, given-solid, added-within, output-put, output-left, gives, all-made}
+use Rattle.sweep.proofs.sweep_all.Statement.{statement}
+use Rattle.sweep.proofs.sweep_all.Tie as tie
+
+abbrev Inv-loop : tie.InvT-loop
+Inv-loop points order work₀ rects₀ writes z₀ made₀ area₀ edge₀ work rects z made area edge = Making points writes work₀ rects₀ work rects z made area edge
+
+abbrev μ-loop : tie.MeasureT-loop
+μ-loop points order work₀ rects₀ writes z₀ made₀ area₀ edge₀ work rects z made area edge = toCome points z
+
+loop-holds : tie.Need-loop-holds Inv-loop μ-loop
+loop-holds c = let s = c .before .before in starts-making (s .pre .0 .0) (s .pre .0 .1) (s .pre .1) (c .start .ensures)
+
+advance-requires : tie.Need-advance-requires Inv-loop μ-loop
+advance-requires c κs = (c .before .loop .inv .underway, c .before .before .before .before .pre .0 .1)
+
+-- ---- A move that goes on
+
+abbrev loop-on : tie.After-at Inv-loop μ-loop → tie.At-loop Inv-loop μ-loop
+loop-on k = k .before .before .before .before .before
+
+-- it is one
+on : (k : tie.After-at Inv-loop μ-loop) → let l = loop-on k in GoesOn (l .before .before .before .args .points .now) (l .loop .z) (l .loop .work) (k .at .given .0 .0) (k .before .before .before .advance .last .1 .1 .0)
+on k = rw (k .at .given .1) at (k .before .before .before .advance .ensures .0)
+
+loop-less : tie.Need-loop-less Inv-loop μ-loop
+loop-less c = on (c .before) .less
+
+loop-again : tie.Need-loop-again Inv-loop μ-loop
+loop-again c =
+    let k = c .before in
+    goes-on (loop-on k .loop .inv) (on k) (k .before .before .before .advance .ensures .1)
+
+-- ---- A move that gives a rectangle
+
+abbrev loop-of : tie.After-rect Inv-loop μ-loop → tie.At-loop Inv-loop μ-loop
+loop-of k = k .before .before .before .before .before
+
+-- it is one
+given : (k : tie.After-rect Inv-loop μ-loop) → let l = loop-of k in Gives (l .before .before .before .args .points .now) (l .loop .z) (l .loop .work) (k .rect .given .0 .0) (k .rect .given .0 .1 .0) (k .rect .given .0 .1 .1 .0) (k .before .before .before .advance .last .1 .1 .0)
+given k = rw (k .rect .given .1) at (k .before .before .before .advance .ensures .0)
+
+-- the rectangle has an area and an edge
+solid : (k : tie.After-rect Inv-loop μ-loop) → flat (k .rect .given .0 .0) ≡ false
+solid k = given-solid (loop-of k .loop .inv) (given k)
+
+put-rect-requires : tie.Need-put-rect-requires Inv-loop μ-loop
+put-rect-requires c κs =
+    let k = c .before .before .before in
+    let m = loop-of k .loop .inv in
+    omega (arith, given k .in-list, m .room (c .before .if1 .taken), output-length m)
+
+add-area : tie.Need-add-area Inv-loop μ-loop
+add-area c =
+    let k = c .before .before .before in
+    let m = loop-of k .loop .inv in
+    omega (arith, added-within m (given k) areaOf (m .areas) (c .area-of .ensures), rule-area-most _ (m .underway .points))
+
+add-edge : tie.Need-add-edge Inv-loop μ-loop
+add-edge c =
+    let k = c .before .before .before .before in
+    let m = loop-of k .loop .inv in
+    omega (arith, added-within m (given k) edgeOf (m .edges) (c .edge-of .ensures), rule-edge-fits _ (m .underway .points))
+
+loop-again-2 : tie.Need-loop-again-2 Inv-loop μ-loop
+loop-again-2 c =
+    let j = c .before .before in
+    let k = j .before .before in
+    let m = loop-of k .loop .inv in
+    gives m (given k) (k .before .before .before .advance .ensures .1) (⊎-elim (λ w. output-put m (given k) (w .0 .taken) (w .4 ∙ w .2 .ensures)) (λ w. output-left m (given k) (w .0 .left) (w .1)) (j .if1 .came)) (c .before .area-of .ensures) (c .edge-of .ensures)
+
+-- ---- All are given
+
+-- a move is refused when they are
+all : (c : tie.After-enum-told Inv-loop μ-loop) → let l = c .before .before .before .before .before in AllGiven (l .before .before .before .args .points .now) (l .loop .z) (l .loop .work)
+all c = rw (c .enum-told .given .1) at (c .before .before .before .advance .ensures .0) .2
+
+-- the working array is kept to the end
+kept : (c : tie.After-enum-told Inv-loop μ-loop) → let l = c .before .before .before .before .before in let s = l .before .before .before in KeptPast (2 * (length (s .args .points .now) / 2)) (s .args .work .now) (c .before .before .before .advance .last .1 .1 .0)
+kept c = kept-on (c .before .before .before .before .before .loop .inv .kept) (c .before .before .before .advance .ensures .1)
+
+returns : tie.Need-returns Inv-loop μ-loop
+returns c =
+    let t = c .before in
+    rw (c .whole-list .ensures) (all-made (t .before .before .before .before .before .loop .inv) (all t), kept t)
+
+pub sweep-all-spec : {M : Type 1} → statement M
+sweep-all-spec =
+    tie.close
+    (tie.spec
+    Inv-loop
+    μ-loop
+    (λ c κs. tt)
+    loop-holds
+    advance-requires
+    (λ c. search needs)
+    loop-less
+    loop-again
+    (λ c. search needs)
+    put-rect-requires
+    (λ c κs. solid (c .before .before))
+    add-area
+    (λ c κs. solid (c .before .before .before))
+    add-edge
+    (λ c. omega (arith, made-fits (loop-again-2 c)))
+    (λ c. given (c .before .before .before .before) .less)
+    loop-again-2
+    (λ c. search needs)
+    (λ c κs. search needs)
+    (λ c. kept (c .before) .same-length)
+    (λ c. output-length (c .before .before .before .before .before .before .loop .inv))
+    returns)

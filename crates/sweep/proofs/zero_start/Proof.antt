@@ -1,0 +1,44 @@
+-- `sweep::zero_start` meets its contract. The invariant: the first i numbers are 0, and the others as they were.
+use Prim.Native.Nat.{ℕ, _+_, _-_, _<_, _≤_}
+use native.Mathlib.Omega.{arith}
+use native.Mathlib.Numerals.{add-one}
+use mathlib.Core.Path.{_≡_, sym, ap, _∙_}
+use mathlib.Core.List.{List, _∷_, _++_}
+use lib.ListN.{length, drop, set, replicate, length-replicate, replicate-append-replicate}
+use lib.Seq.{drop-cons, set-at, append-snoc}
+use lib.IntN.{ℤ, pos}
+use borrow.Author.Needs.{needs}
+use Rattle.sweep.specs.Inner.{zeroed}
+use Rattle.sweep.proofs.zero_start.Statement.{statement}
+use Rattle.sweep.proofs.zero_start.Tie as tie
+
+abbrev Inv-loop : tie.InvT-loop
+Inv-loop work₀ n i₀ work i = (i ≤ n) × (work ≡ zeroed i work₀) × (length work ≡ length work₀)
+
+abbrev μ-loop : tie.MeasureT-loop
+μ-loop work₀ n i₀ work i = n - i
+
+-- one more number set to 0
+zeroed-next : (a : List ℤ) (i : ℕ) → i < length a → set (zeroed i a) i (pos 0) ≡ zeroed (i + 1) a
+zeroed-next a i h =
+    let zeros : List ℤ = replicate i (pos 0) in
+    let next : set (zeroed i a) i (pos 0) ≡ zeros ++ (pos 0 ∷ drop (i + 1) a) = rw (drop-cons a i (pos 0) h, add-one i) (set-at zeros _ _ (pos 0) i (length-replicate i (pos 0))) in
+    next ∙ sym (append-snoc zeros (pos 0) (drop (i + 1) a)) ∙ ap (λ (l : List ℤ). l ++ drop (i + 1) a) (replicate-append-replicate i 1 (pos 0))
+
+loop-again : tie.Need-loop-again Inv-loop μ-loop
+loop-again c =
+    let l = c .before .loop in
+    let a = c .before .before .args .work .now in
+    (omega arith, ap (λ (b : List ℤ). set b (l .i) (pos 0)) (l .inv .1) ∙ zeroed-next a (l .i) (omega arith), search needs)
+
+returns : tie.Need-returns Inv-loop μ-loop
+returns c =
+    let l = c .before .loop in
+    let a = c .before .before .args .work .now in
+    let all : l .i ≡ c .before .before .args .n = omega arith in
+    l .inv .1 ∙ ap (λ (j : ℕ). zeroed j a) all
+
+pub zero-start-spec : {M : Type 1} → statement M
+zero-start-spec =
+    tie.close
+    (tie.spec Inv-loop μ-loop (λ c. search needs) (λ c. search needs) (λ c. search needs) (λ c. search needs) (λ c. search needs) loop-again (λ c. search needs) returns)

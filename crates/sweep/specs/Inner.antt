@@ -1,0 +1,244 @@
+-- What the private functions speak of. No caller needs these definitions: the promise is in the crate `rule`.
+use Prim.Native.Nat.{ℕ, _+_, _-_, _*_, _/_, _<_, _≤_}
+use mathlib.Core.Path.{_≡_}
+use mathlib.Core.Logic.{_⊎_}
+use mathlib.Core.Bool.{Bool, true, not, cond}
+use mathlib.Core.List.{List, [], _∷_, _++_, map}
+use lib.ListN.{length, getD, take, drop, set, replicate}
+use lib.IntN.{ℤ, pos, negsuc, _-ℤ_}
+use lib.Signed.{leZ, ltZ}
+use lib.Dec.{ltb}
+use Rattle.plane.specs.declared.Point.{Point}
+use Rattle.plane.specs.declared.Rect.{Rect}
+use Rattle.plane.specs.Lists.{bit, sum, sumBelow}
+use Rattle.plane.specs.Words.{eqZ, pointsOf, rectsOf, flatRects, inOrder}
+use Rattle.rule.specs.declared.ForwardAnswer.{ForwardAnswer}
+use Rattle.rule.specs.Rule.{ruleList}
+use Rattle.rule.specs.Table.{Check, LENGTH, MANY, WORK, pointAt, rectAt, pointChecks, Accepted, accepted, verdict}
+use Rattle.rule.specs.Answers.{forwardSays, written}
+use Rattle.checks.specs.Screens.{rowOrder}
+use Rattle.live.specs.declared.Live.{Live}
+use Rattle.live.specs.Stands.{far, number, rectNo, stand, nextOn, Stand, Sweeping}
+use Rattle.sweep.specs.declared.Sweep.{Sweep}
+use Rattle.sweep.specs.declared.Move.{Move}
+use Rattle.sweep.specs.declared.Move.the-variants.{Onward, Rectangle, Refused}
+
+-- ---- Arrays
+
+-- a live rectangle of four numbers
+abbrev pub liveOf : Rect → Live
+liveOf r = record { left = r .x; right = r .y; row = r .w; place = r .h }
+
+-- the live rectangles of an array, four numbers to each
+abbrev pub livesOf : List ℤ → List Live
+livesOf a = map liveOf (rectsOf a)
+
+-- the live rectangle at a place
+abbrev pub liveAt : List ℤ → ℕ → Live
+liveAt a i = liveOf (rectAt (rectsOf a) i)
+
+-- an array with four numbers put at place i
+abbrev pub putRect : List ℤ → ℕ → Rect → List ℤ
+putRect a i r = set (set (set (set a (4 * i) (r .x)) (4 * i + 1) (r .y)) (4 * i + 2) (r .w)) (4 * i + 3) (r .h)
+
+-- an array with a live rectangle put at place i
+abbrev pub putLive : List ℤ → ℕ → Live → List ℤ
+putLive a i k = putRect a i (record { x = k .left; y = k .right; w = k .row; h = k .place })
+
+-- past its first n numbers an array is as it was, and as long
+pub record KeptPast (n : ℕ) (before after : List ℤ) : Type 0 where
+  pub same-length : length after ≡ length before
+  pub same-past : drop n after ≡ drop n before
+
+-- an array with its first n numbers set to 0
+abbrev pub zeroed : ℕ → List ℤ → List ℤ
+zeroed n a = replicate n (pos 0) ++ drop n a
+
+-- ---- What is next
+
+-- no point
+abbrev pub farPoint : Point
+farPoint = record { x = far; y = far }
+
+-- no live rectangle
+abbrev pub farLive : Live
+farLive = record { left = far; right = far; row = pos 0; place = pos 0 }
+
+-- the point with a number in order, if there is one
+abbrev pub nextPoint : (a : List ℤ) (order : List ℕ) → ℕ → Point
+nextPoint a order i = cond (ltb i (length order)) (pointAt (pointsOf a) (getD order i 0)) farPoint
+
+-- the live rectangle at a place below an end, if there is one
+abbrev pub nextLive : (work : List ℤ) (i end : ℕ) → Live
+nextLive work i end = cond (ltb i end) (liveAt work i) farLive
+
+-- the point if it is on the row
+abbrev pub onRowOf : Sweep → Point → Point
+onRowOf z p = cond (eqZ (p .y) (z .row)) p farPoint
+
+-- the nearer of a point and the right end carried
+abbrev pub nearer : Sweep → Point → Point
+nearer z t = cond (ltZ (t .x) (z .carried)) t (record { x = z .carried; y = z .row })
+
+-- ---- What the moves make of where the sweep stands
+
+-- before the first point
+abbrev pub startOf : (room : ℕ) → Sweep
+startOf room = record { next = 0; passed = 0; ahead = room; given = 0; row = negsuc 1_999_999_999; carried = far; opened = far }
+
+-- without a point and the right end carried
+abbrev pub cancelled : Sweep → Sweep
+cancelled z = record { next = z .next + 1; passed = z .passed; ahead = z .ahead; given = z .given; row = z .row; carried = far; opened = z .opened }
+
+-- without the nearer of a point and the right end carried
+abbrev pub takenFrom : Sweep → Point → Sweep
+takenFrom z t = cond (ltZ (t .x) (z .carried))
+    (record { next = z .next + 1; passed = z .passed; ahead = z .ahead; given = z .given; row = z .row; carried = z .carried; opened = z .opened })
+    (record { next = z .next; passed = z .passed; ahead = z .ahead; given = z .given; row = z .row; carried = far; opened = z .opened })
+
+-- with an end that opens a rectangle
+abbrev pub opening : Sweep → Point → Sweep
+opening z v = record { next = z .next; passed = z .passed; ahead = z .ahead; given = z .given; row = z .row; carried = z .carried; opened = v .x }
+
+-- with the open one closed
+abbrev pub closed : Sweep → Sweep
+closed z = record { next = z .next; passed = z .passed + 1; ahead = z .ahead; given = z .given + 1; row = z .row; carried = z .carried; opened = far }
+
+-- the rectangle from the open end to this one
+abbrev pub newLive : Sweep → Point → Live
+newLive z v = record { left = z .opened; right = v .x; row = z .row; place = pos (z .given) }
+
+-- with an end put on the row: it opens a rectangle, or closes the open one
+abbrev pub endPut : Sweep → Point → Sweep
+endPut z v = cond (eqZ (z .opened) far) (opening z v) (closed z)
+
+-- the working array then
+abbrev pub endPutWork : (work : List ℤ) → Sweep → Point → List ℤ
+endPutWork work z v = cond (eqZ (z .opened) far) work (putLive work (z .passed) (newLive z v))
+
+-- with the next one ahead passed
+abbrev pub passing : Sweep → Sweep
+passing z = record { next = z .next; passed = z .passed + 1; ahead = z .ahead + 1; given = z .given; row = z .row; carried = z .carried; opened = z .opened }
+
+-- with the next one ahead ended, and its right end carried
+abbrev pub carrying : Sweep → Live → Sweep
+carrying z k = record { next = z .next; passed = z .passed; ahead = z .ahead + 1; given = z .given; row = z .row; carried = k .right; opened = z .opened }
+
+-- its left end as an end on the row
+abbrev pub leftEnd : Sweep → Live → Point
+leftEnd z k = record { x = k .left; y = z .row }
+
+-- with both its ends put on the row; a left end goes with the nearer end where that is
+abbrev pub cutTo : Sweep → Point → Live → Sweep
+cutTo z t k = cond (eqZ (nearer z t .x) (k .left)) (carrying (takenFrom z t) k) (endPut (carrying z k) (leftEnd z k))
+
+-- the working array then
+abbrev pub cutWork : (work : List ℤ) → Sweep → Point → Live → List ℤ
+cutWork work z t k = cond (eqZ (nearer z t .x) (k .left)) work (endPutWork work (carrying z k) (leftEnd z k))
+
+-- the rectangle of one that ends on the row
+abbrev pub endedBox : Sweep → Live → Rect
+endedBox z k = record { x = k .left; y = k .row; w = k .right -ℤ k .left; h = z .row -ℤ k .row }
+
+-- on the row of a point
+abbrev pub atRow : Sweep → Point → (passed ahead : ℕ) → Sweep
+atRow z p passed ahead = record { next = z .next; passed = passed; ahead = ahead; given = z .given; row = p .y; carried = z .carried; opened = z .opened }
+
+-- turned to the row of a point: as many as are ahead again are passed no more, they stand before those ahead, and the last one that is
+-- still passed is left of the point
+pub record Turned (p : Point) (z : Sweep) (before : List ℤ) (r : Sweep) (after : List ℤ) : Type 0 where
+  pub back : ℕ
+  pub fewer : r .passed + back ≡ z .passed
+  pub more : r .ahead + back ≡ z .ahead
+  pub at-row : r ≡ atRow z p (r .passed) (r .ahead)
+  pub still-passed : take (r .passed) (livesOf after) ≡ take (r .passed) (livesOf before)
+  pub ahead-again : drop (r .ahead) (livesOf after) ≡ take back (drop (r .passed) (livesOf before)) ++ drop (z .ahead) (livesOf before)
+  pub last-left : (r .passed ≡ 0) ⊎ (leZ (liveAt before (r .passed - 1) .right) (p .x) ≡ true)
+  pub kept-past : KeptPast (4 * z .ahead) before after
+
+-- ---- A sweep of an array's points
+
+-- how many live rectangles the working array has room for
+abbrev pub roomFor : List ℤ → ℕ
+roomFor a = length a / 2 / 2
+
+-- those passed
+abbrev pub passedIn : (work : List ℤ) → Sweep → List Live
+passedIn work z = take (z .passed) (livesOf work)
+
+-- those ahead
+abbrev pub aheadIn : (a work : List ℤ) → Sweep → List Live
+aheadIn a work z = drop (z .ahead) (take (roomFor a) (livesOf work))
+
+-- the points to come
+abbrev pub restOf : (a : List ℤ) → Sweep → List Point
+restOf a z = drop (z .next) (inOrder (pointsOf a))
+
+-- where the sweep stands, with a point in hand or none
+abbrev pub standOf : (a work : List ℤ) (z : Sweep) (hand : ℤ) → Stand
+standOf a work z hand = stand (restOf a z) (z .row) (z .carried) (z .opened) hand (z .given) (passedIn work z) (aheadIn a work z)
+
+-- 1 for an end that is there
+abbrev pub there : ℤ → ℕ
+there x = bit (not (eqZ x far))
+
+-- a sweep of accepted points is under way
+pub record Underway (a work : List ℤ) (z : Sweep) : Type 0 where
+  pub points : Accepted (pointsOf a)
+  pub few : length a / 2 ≤ 4096
+  pub working : 2 * (length a / 2) ≤ length work
+  pub next-within : z .next ≤ length a / 2
+  pub passed-within : z .passed ≤ z .ahead
+  pub ahead-within : z .ahead ≤ roomFor a
+  pub carried-near : leZ (z .carried) far ≡ true
+  -- the live rectangles and the points to come have room
+  pub room : 2 * (z .passed + (roomFor a - z .ahead)) + ((length a / 2 - z .next) + (there (z .carried) + there (z .opened))) ≤ length a / 2
+  pub sweeping : Sweeping (pointsOf a) (standOf a work z far)
+
+-- how much is to come: every move makes it less
+abbrev pub toCome : (a : List ℤ) → Sweep → ℕ
+toCome a z = (2 * (length a / 2 - z .next) + bit (eqZ (nextOn (z .row) (restOf a z)) far)) * 8192 + (2 * (roomFor a - z .ahead) + there (z .carried))
+
+-- every weight, summed over the live rectangles' numbers
+abbrev pub liveSum : (a work : List ℤ) (z : Sweep) → (ℕ → ℕ) → ℕ
+liveSum a work z w = sum (λ k. w (number k)) (passedIn work z ++ aheadIn a work z)
+
+-- a move that goes on: what has begun is live
+pub record GoesOn (a : List ℤ) (z : Sweep) (before : List ℤ) (at : Sweep) (after : List ℤ) : Type 0 where
+  pub underway : Underway a after at
+  pub less : toCome a at < toCome a z
+  pub balance : (w : ℕ → ℕ) → liveSum a after at w + sumBelow (z .given) w ≡ liveSum a before z w + sumBelow (at .given) w
+
+-- a move that gives a rectangle: it is the one at its place in the list, and live no more
+pub record Gives (a : List ℤ) (z : Sweep) (before : List ℤ) (rect : Rect) (place : ℕ) (at : Sweep) (after : List ℤ) : Type 0 where
+  pub underway : Underway a after at
+  pub less : toCome a at < toCome a z
+  pub in-list : place < length (ruleList (pointsOf a))
+  pub rect-is : rect ≡ rectNo (pointsOf a) place
+  pub balance : (w : ℕ → ℕ) → liveSum a after at w + (w place + sumBelow (z .given) w) ≡ liveSum a before z w + sumBelow (at .given) w
+
+-- a move that is refused, with DRAINED: none is live, and all have begun
+pub record AllGiven (a : List ℤ) (z : Sweep) (before : List ℤ) : Type 0 where
+  pub none-live : passedIn before z ++ aheadIn a before z ≡ []
+  pub all-begun : z .given ≡ length (ruleList (pointsOf a))
+
+-- what a move does
+abbrev pub Advanced : (a : List ℤ) (z : Sweep) (before : List ℤ) → Move → (after : List ℤ) → Type 0
+Advanced a z before (Onward at) after = GoesOn a z before at after
+Advanced a z before (Rectangle rect place at) after = Gives a z before rect place at after
+Advanced a z before (Refused k p) after = (k ≡ 10) × (p ≡ 0) × AllGiven a z before
+
+-- the list is counted and summed, and written if asked for
+pub record Swept (a : List ℤ) (writes : Bool) (before : List ℤ) (r : ForwardAnswer) (after : List ℤ) : Type 0 where
+  pub answer : r ≡ forwardSays accepted (ruleList (pointsOf a))
+  pub output : after ≡ cond writes (written accepted (flatRects (ruleList (pointsOf a))) before) before
+
+-- ---- Checks
+
+-- forward's checks before the room is known: 1, 2, 3, 4, 5, 6, 7
+unfoldable pub inputChecks : (a : List ℤ) (work : ℕ) → List Check
+inputChecks a work = LENGTH (length a) 2 ∷ MANY 4096 (length a / 2) ∷ WORK work (length a / 2) ∷ pointChecks (pointsOf a)
+
+-- where they refuse nothing, places begin with those of the points in order
+pub record Ordered (a : List ℤ) (work : ℕ) (order : List ℕ) : Type 0 where
+  pub in-order : verdict (inputChecks a work) ≡ accepted → take (length a / 2) order ≡ rowOrder (pointsOf a)

@@ -1,0 +1,672 @@
+// Forward by a sweep: upward row by row, and along each row from left to right. The public function is `sweep_points`, at the end; it
+// promises what the crate `rule` says of forward.
+// The live rectangles, begun and not ended, stand by rising x on two stacks in the working array: those left of where the sweep is at its
+// start, those right of it at its end. On a row the points and the live rectangles are walked through together. Where a point falls into a
+// live rectangle, or one begins left of it and reaches it, it ends: its rectangle is done, and its two ends are points of the row like the
+// others. The points of a row, two by two, begin new rectangles. That this gives the rule's list is shown in the crate `live`.
+ghost use mathlib.Core.Path.{_≡_};
+ghost use mathlib.Core.Bool.{true, false, not};
+ghost use mir.Syntax.{w32};
+ghost use mir.Val.{SFits};
+ghost use lib.ListN.{length};
+ghost use lib.IntN.{pos, _-ℤ_};
+ghost use lib.Signed.{ltZ, leZ};
+ghost use Prim.Native.Nat.{_+_, _*_, _/_, _<_, _≤_};
+ghost use Rattle.plane.specs.Words.{eqZ, pointsOf, flat, areaOf, edgeOf};
+ghost use Rattle.rule.specs.Rule.{ruleList};
+ghost use Rattle.rule.specs.Table.{verdict, ForwardAccepted};
+ghost use Rattle.rule.specs.Answers.{forwardAnswer, forwardWork, forwardOut};
+ghost use Rattle.checks.specs.Screens.{screenOf, rowOrder};
+ghost use Rattle.live.specs.Stands.{number};
+ghost use Rattle.sweep.specs.Inner.{farPoint, farLive, liveAt, putLive, putRect, onRowOf, nextPoint, nextLive, nearer, cancelled, takenFrom, carrying, passing, closed, opening, newLive, endPut, endPutWork, cutTo, cutWork, atRow, Turned, endedBox, startOf, Underway, Advanced, KeptPast, zeroed, inputChecks, Ordered, Swept};
+use checks::Screen;
+use checks::order_points;
+use live::Live;
+use places::point_at;
+use plane::Point;
+use plane::Rect;
+use rule::DONE;
+use rule::DRAINED;
+use rule::ForwardAnswer;
+use rule::LENGTH;
+use rule::MANY;
+use rule::ROOM;
+use rule::WORK;
+
+// ---- Where a sweep stands
+
+// Right of every coordinate: where there is no point.
+const FAR: i32 = 2_000_000_000;
+
+// The number of the next point, of live rectangles passed, the place of the first one ahead, and how many rectangles have begun; the row,
+// and on it the right end of the rectangle that ended last and the left end of one that begins, each FAR where there is none.
+struct Sweep {
+    next: usize,
+    passed: usize,
+    ahead: usize,
+    given: usize,
+    row: i32,
+    carried: i32,
+    opened: i32,
+}
+
+// What a move gives: it goes on; a rectangle of the list is done, with its place; or it is refused, for no point is left.
+enum Move {
+    Onward { at: Sweep },
+    Rectangle { rect: Rect, place: usize, at: Sweep },
+    Refused { answer: u32, place: u64 },
+}
+
+// Before the first point, with room for so many live rectangles.
+fn start(room: usize) -> Sweep
+    ensures { λ r. ⌜ r ≡ startOf room ⌝ }
+{
+    Sweep {
+        next: 0,
+        passed: 0,
+        ahead: room,
+        given: 0,
+        row: -FAR,
+        carried: FAR,
+        opened: FAR,
+    }
+}
+
+// ---- Live rectangles in the working array
+
+fn live_at(work: &[i32], i: usize) -> Live
+    requires { ⌜ 4 * i + 3 < length (now work) ⌝ }
+    ensures { λ r. ⌜ r ≡ liveAt (now (work .entry)) i ⌝ }
+{
+    Live {
+        left: work[4 * i],
+        right: work[4 * i + 1],
+        row: work[4 * i + 2],
+        place: work[4 * i + 3],
+    }
+}
+
+fn put_live(work: &mut [i32], i: usize, k: Live)
+    requires { ⌜ 4 * i + 3 < length (now work) ⌝ }
+    ensures { λ r. ⌜ now (work .exit) ≡ putLive (now (work .entry)) i k ⌝ }
+{
+    let left = k.left;
+    let right = k.right;
+    let row = k.row;
+    let place = k.place;
+    work[4 * i] = left;
+    work[4 * i + 1] = right;
+    work[4 * i + 2] = row;
+    work[4 * i + 3] = place;
+}
+
+// ---- What is next
+
+fn far_point() -> Point
+    ensures { λ r. ⌜ r ≡ farPoint ⌝ }
+{
+    Point { x: FAR, y: FAR }
+}
+
+fn far_live() -> Live
+    ensures { λ r. ⌜ r ≡ farLive ⌝ }
+{
+    Live {
+        left: FAR,
+        right: FAR,
+        row: 0,
+        place: 0,
+    }
+}
+
+// The point with this number in order, and a far one where there is none.
+fn next_point(points: &[i32], order: &[u16], i: usize) -> Point
+    ensures { λ r. ⌜ r ≡ nextPoint (now (points .entry)) (now (order .entry)) i ⌝ }
+{
+    if i < order.len() {
+        return point_at(points, order[i] as usize);
+    }
+    far_point()
+}
+
+// The live rectangle at a place below `end`, and a far one where there is none.
+fn next_live(work: &[i32], i: usize, end: usize) -> Live
+    requires { ⌜ 4 * end ≤ length (now work) ⌝ }
+    ensures { λ r. ⌜ r ≡ nextLive (now (work .entry)) i end ⌝ }
+{
+    if i < end {
+        return live_at(work, i);
+    }
+    far_live()
+}
+
+// The point, if it is on the sweep's row, and a far one otherwise.
+fn on_row(z: Sweep, p: Point) -> Point
+    ensures { λ r. ⌜ r ≡ onRowOf z p ⌝ }
+{
+    if p.y == z.row {
+        return p;
+    }
+    far_point()
+}
+
+fn is_far(p: Point) -> bool
+    ensures { λ r. ⌜ r ≡ eqZ (p .x) (pos 2_000_000_000) ⌝ }
+{
+    p.x == FAR
+}
+
+// Whether the point is where the right end carried is: both far, or two that cancel.
+fn is_carried(z: Sweep, t: Point) -> bool
+    ensures { λ r. ⌜ r ≡ eqZ (t .x) (z .carried) ⌝ }
+{
+    t.x == z.carried
+}
+
+fn carried_point(z: Sweep) -> Point
+    ensures { λ r. ⌜ r ≡ record { x = z .carried; y = z .row } ⌝ }
+{
+    Point {
+        x: z.carried,
+        y: z.row,
+    }
+}
+
+fn is_before_carried(z: Sweep, t: Point) -> bool
+    ensures { λ r. ⌜ r ≡ ltZ (t .x) (z .carried) ⌝ }
+{
+    t.x < z.carried
+}
+
+// The nearer of the point and the right end carried.
+fn nearer_end(z: Sweep, t: Point) -> Point
+    ensures { λ r. ⌜ r ≡ nearer z t ⌝ }
+{
+    if is_before_carried(z, t) {
+        return t;
+    }
+    carried_point(z)
+}
+
+fn is_left_of(v: Point, k: Live) -> bool
+    ensures { λ r. ⌜ r ≡ ltZ (v .x) (k .left) ⌝ }
+{
+    v.x < k.left
+}
+
+fn is_at_left(v: Point, k: Live) -> bool
+    ensures { λ r. ⌜ r ≡ eqZ (v .x) (k .left) ⌝ }
+{
+    v.x == k.left
+}
+
+fn is_open(z: Sweep) -> bool
+    ensures { λ r. ⌜ r ≡ not (eqZ (z .opened) (pos 2_000_000_000)) ⌝ }
+{
+    z.opened != FAR
+}
+
+fn falls_into(v: Point, k: Live) -> bool
+    ensures { λ r. ⌜ r ≡ ltZ (v .x) (k .right) ⌝ }
+{
+    v.x < k.right
+}
+
+fn is_passed_by(p: Point, k: Live) -> bool
+    ensures { λ r. ⌜ r ≡ leZ (k .right) (p .x) ⌝ }
+{
+    k.right <= p.x
+}
+
+// ---- One end less
+
+// The point and the right end carried go.
+fn cancel(z: Sweep) -> Sweep
+    requires { ⌜ z .next ≤ 4096 ⌝ }
+    ensures { λ r. ⌜ r ≡ cancelled z ⌝ }
+{
+    Sweep {
+        next: z.next + 1,
+        passed: z.passed,
+        ahead: z.ahead,
+        given: z.given,
+        row: z.row,
+        carried: FAR,
+        opened: z.opened,
+    }
+}
+
+fn after_point(z: Sweep) -> Sweep
+    requires { ⌜ z .next ≤ 4096 ⌝ }
+    ensures { λ r. ⌜ r ≡ record { next = z .next + 1; passed = z .passed; ahead = z .ahead; given = z .given; row = z .row; carried = z .carried; opened = z .opened } ⌝ }
+{
+    Sweep {
+        next: z.next + 1,
+        passed: z.passed,
+        ahead: z.ahead,
+        given: z.given,
+        row: z.row,
+        carried: z.carried,
+        opened: z.opened,
+    }
+}
+
+fn without_carried(z: Sweep) -> Sweep
+    ensures { λ r. ⌜ r ≡ record { next = z .next; passed = z .passed; ahead = z .ahead; given = z .given; row = z .row; carried = pos 2_000_000_000; opened = z .opened } ⌝ }
+{
+    Sweep {
+        next: z.next,
+        passed: z.passed,
+        ahead: z.ahead,
+        given: z.given,
+        row: z.row,
+        carried: FAR,
+        opened: z.opened,
+    }
+}
+
+// The nearer of the point and the right end carried is taken.
+fn taken(z: Sweep, t: Point) -> Sweep
+    requires { ⌜ z .next ≤ 4096 ⌝ }
+    ensures { λ r. ⌜ r ≡ takenFrom z t ⌝ }
+{
+    if is_before_carried(z, t) {
+        return after_point(z);
+    }
+    without_carried(z)
+}
+
+// ---- Rectangles that begin
+
+fn open_at(z: Sweep, v: Point) -> Sweep
+    ensures { λ r. ⌜ r ≡ opening z v ⌝ }
+{
+    Sweep {
+        next: z.next,
+        passed: z.passed,
+        ahead: z.ahead,
+        given: z.given,
+        row: z.row,
+        carried: z.carried,
+        opened: v.x,
+    }
+}
+
+// The live rectangle from the end that is open to this one.
+fn new_live(z: Sweep, v: Point) -> Live
+    requires { ⌜ z .given ≤ 16_777_216 ⌝ }
+    ensures { λ r. ⌜ r ≡ newLive z v ⌝ }
+{
+    Live {
+        left: z.opened,
+        right: v.x,
+        row: z.row,
+        place: z.given as i32,
+    }
+}
+
+fn close_open(z: Sweep) -> Sweep
+    requires { ⌜ (z .given ≤ 16_777_216) × (z .passed < 4096) ⌝ }
+    ensures { λ r. ⌜ r ≡ closed z ⌝ }
+{
+    Sweep {
+        next: z.next,
+        passed: z.passed + 1,
+        ahead: z.ahead,
+        given: z.given + 1,
+        row: z.row,
+        carried: z.carried,
+        opened: FAR,
+    }
+}
+
+// An end on the row: it opens a rectangle, or closes the one that is open.
+fn put_end(work: &mut [i32], z: Sweep, v: Point) -> Sweep
+    requires { ⌜ (z .given ≤ 16_777_216) × (z .passed < 4096) × (4 * z .passed + 3 < length (now work)) ⌝ }
+    ensures { λ r. ⌜ r ≡ endPut z v ⌝ }
+    ensures { λ r. ⌜ now (work .exit) ≡ endPutWork (now (work .entry)) z v ⌝ }
+{
+    if is_open(z) {
+        put_live(work, z.passed, new_live(z, v));
+        return close_open(z);
+    }
+    open_at(z, v)
+}
+
+// ---- Live rectangles that the sweep comes to
+
+// The next one ahead goes on.
+fn pass(z: Sweep) -> Sweep
+    requires { ⌜ (z .passed < 4096) × (z .ahead < 4096) ⌝ }
+    ensures { λ r. ⌜ r ≡ passing z ⌝ }
+{
+    Sweep {
+        next: z.next,
+        passed: z.passed + 1,
+        ahead: z.ahead + 1,
+        given: z.given,
+        row: z.row,
+        carried: z.carried,
+        opened: z.opened,
+    }
+}
+
+// It ends, and its right end is carried.
+fn carry(z: Sweep, k: Live) -> Sweep
+    requires { ⌜ z .ahead < 4096 ⌝ }
+    ensures { λ r. ⌜ r ≡ carrying z k ⌝ }
+{
+    Sweep {
+        next: z.next,
+        passed: z.passed,
+        ahead: z.ahead + 1,
+        given: z.given,
+        row: z.row,
+        carried: k.right,
+        opened: z.opened,
+    }
+}
+
+fn left_end(z: Sweep, k: Live) -> Point
+    ensures { λ r. ⌜ r ≡ record { x = k .left; y = z .row } ⌝ }
+{
+    Point {
+        x: k.left,
+        y: z.row,
+    }
+}
+
+// The next one ahead ends. Its left end goes with a point or a carried end there, or is an end on the row.
+fn cut(work: &mut [i32], z: Sweep, t: Point, k: Live) -> Sweep
+    requires { ⌜ (z .next ≤ 4096) × (z .given ≤ 16_777_216) × (z .passed < 4096) × (z .ahead < 4096) × (4 * z .passed + 3 < length (now work)) ⌝ }
+    ensures { λ r. ⌜ r ≡ cutTo z t k ⌝ }
+    ensures { λ r. ⌜ now (work .exit) ≡ cutWork (now (work .entry)) z t k ⌝ }
+{
+    let v = nearer_end(z, t);
+    if is_at_left(v, k) {
+        return carry(taken(z, t), k);
+    }
+    put_end(work, carry(z, k), left_end(z, k))
+}
+
+// The rectangle that ends on the row.
+fn ended(z: Sweep, k: Live) -> Rect
+    requires { ⌜ SFits w32 (k .right -ℤ k .left) × SFits w32 (z .row -ℤ k .row) ⌝ }
+    ensures { λ r. ⌜ r ≡ endedBox z k ⌝ }
+{
+    Rect {
+        x: k.left,
+        y: k.row,
+        w: k.right - k.left,
+        h: z.row - k.row,
+    }
+}
+
+// A live rectangle's place in the list.
+fn place_in_list(k: Live) -> usize
+    requires { ⌜ k .place ≡ pos (number k) ⌝ }
+    ensures { λ r. ⌜ r ≡ number k ⌝ }
+{
+    let place = k.place;
+    place as usize
+}
+
+// ---- The next row
+
+fn begin_row(z: Sweep, p: Point, passed: usize, ahead: usize) -> Sweep
+    ensures { λ r. ⌜ r ≡ atRow z p passed ahead ⌝ }
+{
+    Sweep {
+        next: z.next,
+        passed: passed,
+        ahead: ahead,
+        given: z.given,
+        row: p.y,
+        carried: z.carried,
+        opened: z.opened,
+    }
+}
+
+// Turns to the row of its first point: the live rectangles that end right of it are ahead again.
+fn turn(work: &mut [i32], z: Sweep, p: Point) -> Sweep
+    requires { ⌜ (z .passed ≤ z .ahead) × (4 * z .ahead ≤ length (now work)) ⌝ }
+    ensures { λ r. ⌜ Turned p z (now (work .entry)) r (now (work .exit)) ⌝ }
+{
+    let mut passed = z.passed;
+    let mut ahead = z.ahead;
+    while 0 < passed {
+        let k = live_at(work, passed - 1);
+        if is_passed_by(p, k) {
+            return begin_row(z, p, passed, ahead);
+        }
+        passed -= 1;
+        ahead -= 1;
+        put_live(work, ahead, k);
+    }
+    begin_row(z, p, passed, ahead)
+}
+
+// ---- One move
+
+// The next move of a sweep of accepted points, which stand in this order.
+fn advance(points: &[i32], order: &[u16], work: &mut [i32], z: Sweep) -> Move
+    requires { ⌜ Underway (now points) (now work) z × (now order ≡ rowOrder (pointsOf (now points))) ⌝ }
+    ensures { λ r. ⌜ Advanced (now (points .entry)) z (now (work .entry)) r (now (work .exit)) ⌝ }
+    ensures { λ r. ⌜ KeptPast (2 * (length (now (points .entry)) / 2)) (now (work .entry)) (now (work .exit)) ⌝ }
+{
+    let p = next_point(points, order, z.next);
+    let t = on_row(z, p);
+    if is_carried(z, t) {
+        if !is_far(t) {
+            return Move::Onward { at: cancel(z) };
+        }
+        if is_far(p) {
+            return Move::Refused {
+                answer: DRAINED,
+                place: 0,
+            };
+        }
+        return Move::Onward {
+            at: turn(work, z, p),
+        };
+    }
+    let k = next_live(work, z.ahead, order.len() / 2);
+    let v = nearer_end(z, t);
+    if is_left_of(v, k) {
+        return Move::Onward {
+            at: put_end(work, taken(z, t), v),
+        };
+    }
+    if is_open(z) | falls_into(v, k) {
+        let at = cut(work, z, t, k);
+        return Move::Rectangle {
+            rect: ended(z, k),
+            place: place_in_list(k),
+            at: at,
+        };
+    }
+    put_live(work, z.passed, k);
+    Move::Onward { at: pass(z) }
+}
+
+// ---- The list
+
+// Puts a rectangle at place i of the output.
+fn put_rect(out: &mut [i32], i: usize, r: Rect)
+    requires { ⌜ 4 * i + 3 < length (now out) ⌝ }
+    ensures { λ u. ⌜ now (out .exit) ≡ putRect (now (out .entry)) i r ⌝ }
+{
+    let x = r.x;
+    let y = r.y;
+    let w = r.w;
+    let h = r.h;
+    out[4 * i] = x;
+    out[4 * i + 1] = y;
+    out[4 * i + 2] = w;
+    out[4 * i + 3] = h;
+}
+
+fn area_of(r: Rect) -> u64
+    requires { ⌜ flat r ≡ false ⌝ }
+    ensures { λ u. ⌜ u ≡ areaOf r ⌝ }
+{
+    let w = r.w;
+    let h = r.h;
+    (w as u64) * (h as u64)
+}
+
+fn edge_of(r: Rect) -> u64
+    requires { ⌜ flat r ≡ false ⌝ }
+    ensures { λ u. ⌜ u ≡ edgeOf r ⌝ }
+{
+    let w = r.w;
+    let h = r.h;
+    2 * ((w as u64) + (h as u64))
+}
+
+// An answer that is a list.
+fn whole_list(count: usize, area: u64, edge: u64) -> ForwardAnswer
+    ensures { λ r. ⌜ r ≡ record { answer = 0; place = 0; count = count; area = area; edge = edge } ⌝ }
+{
+    ForwardAnswer {
+        answer: DONE,
+        place: 0,
+        count: count,
+        area: area,
+        edge: edge,
+    }
+}
+
+// Moves until no point is left, sums the rectangles' areas and edges, and writes them if asked to. A move's only refusal is DRAINED.
+fn sweep_all(
+    points: &[i32],
+    order: &[u16],
+    work: &mut [i32],
+    rects: &mut [i32],
+    writes: bool,
+) -> ForwardAnswer
+    requires { ⌜ ForwardAccepted (now points) (length (now work)) (4 * length (ruleList (pointsOf (now points)))) × (now order ≡ rowOrder (pointsOf (now points))) ⌝ }
+    requires { ⌜ (writes ≡ true → 4 * length (ruleList (pointsOf (now points))) ≤ length (now rects)) ⌝ }
+    ensures { λ r. ⌜ Swept (now (points .entry)) writes (now (rects .entry)) r (now (rects .exit)) ⌝ }
+    ensures { λ r. ⌜ KeptPast (2 * (length (now (points .entry)) / 2)) (now (work .entry)) (now (work .exit)) ⌝ }
+{
+    let mut z = start(order.len() / 2);
+    let mut made: usize = 0;
+    let mut area: u64 = 0;
+    let mut edge: u64 = 0;
+    loop {
+        match advance(points, order, work, z) {
+            Move::Onward { at } => {
+                z = at;
+            }
+            Move::Rectangle { rect, place, at } => {
+                if writes {
+                    put_rect(rects, place, rect);
+                }
+                area += area_of(rect);
+                edge += edge_of(rect);
+                made += 1;
+                z = at;
+            }
+            Move::Refused {
+                answer: _,
+                place: _,
+            } => {
+                return whole_list(made, area, edge);
+            }
+        }
+    }
+}
+
+// Sets the first n numbers to 0.
+fn zero_start(work: &mut [i32], n: usize)
+    requires { ⌜ n ≤ length (now work) ⌝ }
+    ensures { λ r. ⌜ now (work .exit) ≡ zeroed n (now (work .entry)) ⌝ }
+{
+    let mut i = 0;
+    while i < n {
+        work[i] = 0;
+        i += 1;
+    }
+}
+
+// An answer that is a refusal.
+fn no_list(answer: u32, place: u64) -> ForwardAnswer
+    ensures { λ r. ⌜ r ≡ record { answer = answer; place = place; count = 0; area = 0; edge = 0 } ⌝ }
+{
+    ForwardAnswer {
+        answer: answer,
+        place: place,
+        count: 0,
+        area: 0,
+        edge: 0,
+    }
+}
+
+// Forward of points that are accepted and stand in this order: counts the rectangles, and writes only where all have room.
+fn fracture(points: &[i32], order: &[u16], work: &mut [i32], rects: &mut [i32]) -> ForwardAnswer
+    requires { ⌜ ForwardAccepted (now points) (length (now work)) (4 * length (ruleList (pointsOf (now points)))) × (now order ≡ rowOrder (pointsOf (now points))) ⌝ }
+    ensures { λ r. ⌜ r ≡ forwardAnswer (now (points .entry)) (length (now (work .entry))) (length (now (rects .entry))) ⌝ }
+    ensures { λ r. ⌜ now (work .exit) ≡ forwardWork (now (points .entry)) (now (work .entry)) (length (now (rects .entry))) ⌝ }
+    ensures { λ r. ⌜ now (rects .exit) ≡ forwardOut (now (points .entry)) (length (now (work .entry))) (now (rects .entry)) ⌝ }
+{
+    let n = order.len();
+    let counted = sweep_all(points, order, work, rects, false);
+    let needed = counted.count;
+    if rects.len() / 4 < needed {
+        zero_start(work, 2 * n);
+        return no_list(ROOM, needed as u64);
+    }
+    let done = sweep_all(points, order, work, rects, true);
+    zero_start(work, 2 * n);
+    done
+}
+
+// ---- Checks
+
+// A refusal of the whole, at place 0.
+fn refused(number: u32) -> Screen
+    ensures { λ r. ⌜ r ≡ Screen.Refused number 0 ⌝ }
+{
+    Screen::Refused {
+        answer: number,
+        place: 0,
+    }
+}
+
+// Forward's checks before the room is known. Where nothing is refused, `order` begins with the places of the points in order.
+fn check_input(points: &[i32], work: usize, order: &mut [u16; 4096]) -> Screen
+    ensures { λ r. ⌜ r ≡ screenOf (verdict (inputChecks (now (points .entry)) work)) ⌝ }
+    ensures { λ r. ⌜ Ordered (now (points .entry)) work (now (order .exit)) ⌝ }
+{
+    let n = points.len() / 2;
+    if points.len() % 2 != 0 {
+        return refused(LENGTH);
+    }
+    if 4096 < n {
+        return refused(MANY);
+    }
+    if work < 2 * n {
+        return refused(WORK);
+    }
+    order_points(points, order)
+}
+
+// ---- The public function
+
+// The rectangles of the array's points, written to `rects`, with their count, area and edge; or a refusal, which leaves `rects` as it
+// was. `points` is only read; `work` needs two numbers for each point.
+pub fn sweep_points(points: &[i32], work: &mut [i32], rects: &mut [i32]) -> ForwardAnswer
+    ensures { λ r. ⌜ r ≡ forwardAnswer (now (points .entry)) (length (now (work .entry))) (length (now (rects .entry))) ⌝ }
+    ensures { λ r. ⌜ now (work .exit) ≡ forwardWork (now (points .entry)) (now (work .entry)) (length (now (rects .entry))) ⌝ }
+    ensures { λ r. ⌜ now (rects .exit) ≡ forwardOut (now (points .entry)) (length (now (work .entry))) (now (rects .entry)) ⌝ }
+{
+    let mut order: [u16; 4096] = [0; 4096];
+    match check_input(points, work.len(), &mut order) {
+        Screen::Clear => {
+            let n = points.len() / 2;
+            fracture(points, &order[0..n], work, rects)
+        }
+        Screen::Refused { answer, place } => no_list(answer, place),
+    }
+}

@@ -1,10 +1,11 @@
 .DEFAULT_GOAL := help
-.PHONY: help test archive mutants
+.PHONY: help test archive bench mutants
 
 help:
 	@echo 'make help      print the targets'
 	@echo 'make test      run the test gate, .ci/run'
 	@echo 'make archive   prove the C face and write target/staticlib/libpanbuckle_c.a'
+	@echo 'make bench     time the library beside Boost.Polygon and std::sort, some minutes; no part of the gate'
 	@echo 'make mutants   have the prover check small edits of the code; it takes an hour or so, and is no part of the gate'
 
 test:
@@ -12,6 +13,9 @@ test:
 
 archive:
 	@rt staticlib panbuckle_c
+
+bench:
+	@python3 bench/bench.py
 
 mutants:
 	@tests/mutants

@@ -223,7 +223,7 @@ class Choice(unittest.TestCase):
 
     def test_every_crate_but_those_left_out(self):
         crates = {mutant.crate for mutant in self.chosen}
-        self.assertEqual(set(crates_of(ROOT)) - crates - {"plane"}, set(SCRIPT.LEFT_OUT))
+        self.assertEqual(set(crates_of(ROOT)) - crates - {"plane", "live"}, set(SCRIPT.LEFT_OUT))
 
     def test_the_same_each_time(self):
         again = chosen(all_mutants(ROOT, SCRIPT.LEFT_OUT), SCRIPT.COUNT, SCRIPT.SEED)

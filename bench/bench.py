@@ -1,0 +1,168 @@
+"""Builds Panbuckle's C face and the program compare.cpp, runs them on the families, and prints the tables of README.md.
+
+Both sides are built for x86-64 and run the same way: natively, or both under the kit's emulator on another processor, where only the
+ratios say something. Debian's packages that are wanted and not there are installed.
+"""
+
+import os
+import platform
+import shutil
+import subprocess
+import sys
+import tempfile
+from pathlib import Path
+
+from families import FAMILIES, REFUSED, family, refused
+
+ROOT = Path(__file__).resolve().parent.parent
+ARCHIVE = ROOT / "target" / "staticlib" / "libpanbuckle_c.a"
+NATIVE = platform.machine() == "x86_64"
+COMPILER = "g++" if NATIVE else "x86_64-linux-gnu-g++"
+PACKAGES = ["g++"] if NATIVE else ["g++-x86-64-linux-gnu"]
+POLYGON = Path("/usr/include/boost/polygon/polygon.hpp")
+SIZES = (512, 1024, 2048, 4096)
+RECTANGLES = (1024, 4096, 16384)
+
+
+def run(*words, **named):
+    """Runs a command that must end well; gives what it prints."""
+    return subprocess.run([str(word) for word in words], check=True, text=True, stdout=subprocess.PIPE, **named).stdout
+
+
+def ensure_tools():
+    """Installs the compiler and Boost's headers where they are not there."""
+    wanted = ([] if shutil.which(COMPILER) else PACKAGES) + ([] if POLYGON.exists() else ["libboost-dev"])
+    if wanted:
+        quiet = {"env": {**os.environ, "DEBIAN_FRONTEND": "noninteractive"}}
+        run("apt-get", "update", **quiet)
+        run("apt-get", "install", "-y", *wanted, **quiet)
+
+
+def built(folder):
+    """The program compare.cpp, built with the archive in a folder. Boost's headers serve any compiler, also one that does not look there."""
+    program = Path(folder) / "compare"
+    headers = Path(folder) / "headers"
+    headers.mkdir()
+    (headers / "boost").symlink_to(POLYGON.parent.parent)
+    run(COMPILER, "-std=c++17", "-O3", "-static", f"-I{ROOT / 'include'}", f"-I{headers}", ROOT / "bench" / "compare.cpp", ARCHIVE, "-o", program)
+    return program
+
+
+def kit():
+    """The kit's folder for this processor."""
+    guide = run("rt", "doc").strip()
+    return Path(guide).parent.parent / "on" / platform.machine() / "toolchain"
+
+
+def emulator():
+    """The words that come before an x86-64 program to run it here."""
+    return [] if NATIVE else [kit() / "bin" / "qemu-x86_64"]
+
+
+def kit_program(name):
+    """The words that run a program of this repository."""
+    program = ROOT / "target" / "bin" / name
+    if NATIVE:
+        return [program]
+    return [*emulator(), kit() / "lib" / "ld-linux-x86-64.so.2", "--library-path", kit() / "lib", program]
+
+
+class Bench:
+    """The program compare.cpp, and the files that it reads."""
+
+    def __init__(self, folder, program):
+        self.folder = Path(folder)
+        self.command = [*emulator(), program]
+
+    def rows(self, what, *words):
+        """What the program prints, each line in words."""
+        return [line.split() for line in run(*self.command, what, *words).splitlines()]
+
+    def file(self, name, points):
+        """A file of points."""
+        path = self.folder / f"{name}.txt"
+        path.write_text("".join(f"{x} {y}\n" for x, y in points), encoding="utf-8")
+        return path
+
+
+def table(head, rows):
+    """Prints a table in Markdown."""
+    print()
+    for row in [head, ["---"] * len(head), *rows]:
+        print("| " + " | ".join(str(word) for word in row) + " |")
+
+
+def compare_forward(bench, sizes):
+    """Forward against Boost, family by family; gives our times by family and size."""
+    rows, times = [], {}
+    for name in FAMILIES:
+        for n in sizes:
+            (_, points, count, ours, theirs) = bench.rows("forward", bench.file(f"{name}_{n}", family(name, n)))[0]
+            times[name, n] = (float(ours), int(count))
+            rows.append([name.replace("_", " "), points, count, f"{float(ours):.4f}", f"{float(theirs):.4f}", f"{float(ours) / float(theirs):.2f}"])
+    table(["family", "points", "rectangles", "Panbuckle, ms", "Boost.Polygon, ms", "ratio"], rows)
+    return times
+
+
+def show_growth(times, sizes):
+    """What a doubling of the points does to the time, and to the number of rectangles."""
+    pairs = list(zip(sizes, sizes[1:]))
+    rows = []
+    for name in FAMILIES:
+        grown = [(times[name, n][0] / times[name, m][0], times[name, n][1] / times[name, m][1]) for m, n in pairs]
+        rows.append([name.replace("_", " "), *[f"{time:.1f} ({count:.1f})" for time, count in grown]])
+    table(["family: time (rectangles)", *[f"{m} to {n}" for m, n in pairs]], rows)
+
+
+def compare_backward(bench):
+    """Backward against a sort."""
+    rows = bench.rows("backward", *RECTANGLES)
+    table(["rectangles", "points", "backward, ms", "std::sort, ms", "ratio"], [[count, points, ours, theirs, f"{float(ours) / float(theirs):.2f}"] for _, count, points, ours, theirs in rows])
+
+
+def show_refused(bench):
+    """How long refusals take."""
+    files = [bench.file(name, refused(name)) for name in REFUSED]
+    table(["refused", "points", "answer", "place", "ms"], [[name.replace("_", " "), *rest] for name, *rest in bench.rows("refused", *files)])
+
+
+def show_stack(bench):
+    """The most stack that a call uses, over all families and refused arrays of 4,096 points, and rectangles at random."""
+    files = [bench.file(name, family(name, SIZES[-1])) for name in FAMILIES] + [bench.file(name, refused(name)) for name in REFUSED]
+    rows = bench.rows("stack", *files)
+    most = {"forward": max(int(row[2]) for row in rows), "step": max(int(row[3]) for row in rows)}
+    most["backward"] = max(int(row[2]) for row in bench.rows("backstack", *RECTANGLES))
+    table(["call", "bytes of stack, at most"], most.items())
+
+
+def show_fracture(bench, name, n):
+    """Where fracture's time goes. A text that is refused for its first point is read whole and no further looked at; a step makes all the
+    checks; forward makes them and the list."""
+    points = family(name, n)
+    text, far, empty = bench.file("whole", points), bench.file("far", [(2000000000, 0), *points[1:]]), bench.file("empty", [])
+    program = kit_program("fracture")
+    start, read, whole = (float(bench.rows("program", file, *program)[0][1]) for file in (empty, far, text))
+    checks = float(bench.rows("step", text)[0][2])
+    listed = float(bench.rows("forward", text)[0][3])
+    parts = {"start and end": start, "reading": read - start, "checks": checks, "list": listed - checks, "printing": whole - read - listed}
+    table([f"fracture, {name.replace('_', ' ')}, {len(points)} points", "ms"], [*[[part, f"{time:.3f}"] for part, time in parts.items()], ["in all", f"{whole:.3f}"]])
+
+
+def main():
+    """Builds, runs and prints."""
+    ensure_tools()
+    run("rt", "staticlib", "panbuckle_c", cwd=ROOT)
+    run("rt", "check", "fracture", cwd=ROOT)
+    with tempfile.TemporaryDirectory() as folder:
+        bench = Bench(folder, built(folder))
+        show_growth(compare_forward(bench, SIZES), SIZES)
+        compare_backward(bench)
+        show_refused(bench)
+        show_stack(bench)
+        for name in ("rects", "noise"):
+            show_fracture(bench, name, SIZES[-1])
+    return 0
+
+
+if __name__ == "__main__":
+    sys.exit(main())

@@ -1,0 +1,270 @@
+// Times Panbuckle, through its C face, beside Boost.Polygon and std::sort, on the same arrays in the same run.
+//
+//   compare forward FILE...     the points of each file ("x y" lines) to rectangles: all of forward against all of Boost's
+//   compare refused FILE...     the points of each file, which forward refuses
+//   compare step FILE...        one step: all of a step's checks, and the first rectangle
+//   compare backward NUMBER...  so many rectangles at random to their points: backward against a std::sort of their corners
+//   compare stack FILE...       how many bytes of stack forward and a step use on the points of each file
+//   compare backstack NUMBER... and backward on so many rectangles at random
+//   compare program FILE WORD...  a program, given as words, with the file as its standard input
+//
+// Each line printed has the name, the sizes, and the best time of many, in milliseconds. Two that are compared take turns, so that both
+// meet the machine in the same state; COMPARE_FOR=MILLISECONDS says for how long, a second where it says nothing.
+#include <panbuckle.h>
+
+#include <fcntl.h>
+#include <spawn.h>
+#include <sys/wait.h>
+#include <ucontext.h>
+#include <unistd.h>
+
+#include <algorithm>
+#include <boost/polygon/polygon.hpp>
+#include <chrono>
+#include <cinttypes>
+#include <cstdio>
+#include <cstdlib>
+#include <cstring>
+#include <random>
+#include <string>
+#include <utility>
+#include <vector>
+
+extern char **environ;
+
+namespace {
+
+using Numbers = std::vector<int32_t>;
+using Box = boost::polygon::rectangle_data<int>;
+
+[[noreturn]] void give_up(const std::string &why) {
+    std::fprintf(stderr, "compare: %s\n", why.c_str());
+    std::exit(1);
+}
+
+// ---- Time
+
+double now() {
+    using namespace std::chrono;
+    return duration<double, std::milli>(steady_clock::now().time_since_epoch()).count();
+}
+
+template <class Work> double timed(Work work) {
+    double began = now();
+    work();
+    return now() - began;
+}
+
+// How long two that are compared take turns, in milliseconds; they have five turns at least.
+double how_long() {
+    const char *asked = std::getenv("COMPARE_FOR");
+    return asked ? std::atof(asked) : 1000;
+}
+
+// The best times of two that take turns.
+template <class Ours, class Theirs> std::pair<double, double> best_of(Ours ours, Theirs theirs) {
+    double until = now() + how_long(), our_best = 1e300, their_best = 1e300;
+    for (int turn = 0; turn < 5 || now() < until; turn++) {
+        our_best = std::min(our_best, timed(ours));
+        their_best = std::min(their_best, timed(theirs));
+    }
+    return {our_best, their_best};
+}
+
+template <class Ours> double best_of(Ours ours) { return best_of(ours, [] {}).first; }
+
+// ---- Stack
+
+constexpr size_t MOST_STACK = 1 << 18;
+constexpr unsigned char PAINT = 0xa5;
+void (*painted_work)(void *);
+void *painted_data;
+ucontext_t painted_return, painted_context;
+
+void on_painted_stack() { painted_work(painted_data); }
+
+// Runs work on a painted stack of its own, and counts the bytes from its start to the last one that has lost its paint.
+template <class Work> size_t stack_of(Work work) {
+    std::vector<unsigned char> stack(MOST_STACK, PAINT);
+    painted_work = [](void *data) { (*static_cast<Work *>(data))(); };
+    painted_data = &work;
+    getcontext(&painted_context);
+    painted_context.uc_stack.ss_sp = stack.data();
+    painted_context.uc_stack.ss_size = stack.size();
+    painted_context.uc_link = &painted_return;
+    makecontext(&painted_context, on_painted_stack, 0);
+    swapcontext(&painted_return, &painted_context);
+    return stack.end() - std::find_if(stack.begin(), stack.end(), [](unsigned char byte) { return byte != PAINT; });
+}
+
+// ---- Inputs
+
+Numbers read_points(const char *file) {
+    FILE *in = std::fopen(file, "r");
+    if (!in) give_up(std::string(file) + " cannot be read");
+    Numbers points;
+    int32_t number;
+    while (std::fscanf(in, "%" SCNd32, &number) == 1) points.push_back(number);
+    std::fclose(in);
+    return points;
+}
+
+std::string name_of(const char *file) {
+    std::string name = file;
+    name = name.substr(name.find_last_of('/') + 1);
+    return name.substr(0, name.find('.'));
+}
+
+// ---- Boost.Polygon
+
+// The points as edges of a set of cells, an even number of times inside out, cut into rectangles along the rows. Sorting the points, the
+// even-odd rule and the cutting are all of it; nothing is checked.
+void boost_fracture(const Numbers &points, std::vector<Box> &boxes) {
+    std::vector<std::pair<int, int>> sorted;
+    for (size_t i = 0; i < points.size(); i += 2) sorted.emplace_back(points[i + 1], points[i]);
+    std::sort(sorted.begin(), sorted.end());
+    boost::polygon::polygon_90_set_data<int> cells(boost::polygon::HORIZONTAL);
+    int sign = 1;
+    for (auto [y, x] : sorted) {
+        cells.insert(std::make_pair(y, std::make_pair(x, sign)), false, boost::polygon::HORIZONTAL);
+        sign = -sign;
+    }
+    cells.self_xor();
+    boxes.clear();
+    cells.get_rectangles(boxes);
+}
+
+uint64_t area_of(const std::vector<Box> &boxes) {
+    uint64_t area = 0;
+    for (const Box &box : boxes) area += uint64_t(boost::polygon::delta(box, boost::polygon::HORIZONTAL)) * uint64_t(boost::polygon::delta(box, boost::polygon::VERTICAL));
+    return area;
+}
+
+// ---- What is compared
+
+struct Forward {
+    Numbers points, work, rects;
+    uint64_t result[5];
+
+    explicit Forward(const char *file) : points(read_points(file)), work(points.size() + 1), rects(4) {}
+
+    void run(size_t room) { panbuckle_forward(points.data(), points.size(), work.data(), points.size(), rects.data(), room, result); }
+};
+
+void compare_forward(const char *file) {
+    Forward ours(file);
+    ours.run(0);
+    ours.rects.resize(4 * ours.result[PANBUCKLE_PLACE]);
+    std::vector<Box> boxes;
+    auto [our_best, their_best] = best_of([&] { ours.run(ours.rects.size()); }, [&] { boost_fracture(ours.points, boxes); });
+    if (ours.result[PANBUCKLE_ANSWER] != PANBUCKLE_DONE) give_up(std::string(file) + " is refused");
+    if (ours.result[PANBUCKLE_AREA] != area_of(boxes)) give_up(std::string(file) + ": the areas differ");
+    std::printf("%s %zu %" PRIu64 " %.5f %.5f\n", name_of(file).c_str(), ours.points.size() / 2, ours.result[PANBUCKLE_COUNT], our_best, their_best);
+}
+
+void time_refused(const char *file) {
+    Forward ours(file);
+    double best = best_of([&] { ours.run(0); });
+    if (ours.result[PANBUCKLE_ANSWER] == PANBUCKLE_DONE) give_up(std::string(file) + " is not refused");
+    std::printf("%s %zu %" PRIu64 " %" PRIu64 " %.5f\n", name_of(file).c_str(), ours.points.size() / 2, ours.result[PANBUCKLE_ANSWER], ours.result[PANBUCKLE_PLACE], best);
+}
+
+void time_step(const char *file) {
+    Numbers points = read_points(file), work;
+    int32_t rect[4];
+    uint64_t result[3];
+    double best = best_of([&] {
+        work = points;
+        panbuckle_step(work.data(), work.size(), work.size() / 2, rect, result);
+    });
+    if (result[PANBUCKLE_ANSWER] != PANBUCKLE_DONE) give_up(std::string(file) + " is refused");
+    std::printf("%s %zu %.5f\n", name_of(file).c_str(), points.size() / 2, best);
+}
+
+// So many rectangles at random. The last two are the same and cancel, so that there are fewer points than corners, and backward counts them
+// before it writes.
+struct Backward {
+    Numbers rects, points;
+    uint64_t result[3];
+
+    explicit Backward(const char *number) {
+        size_t count = std::strtoul(number, nullptr, 10);
+        std::mt19937 random(1983);
+        std::uniform_int_distribution<int32_t> corner(-1000000, 1000000), side(1, 1000);
+        for (size_t i = 0; i < count; i++) rects.insert(rects.end(), {corner(random), corner(random), side(random), side(random)});
+        std::copy_n(rects.end() - 8, 4, rects.end() - 4);
+        points.resize(1);
+        panbuckle_backward(rects.data(), rects.size(), points.data(), 0, result);
+        points.resize(2 * result[PANBUCKLE_PLACE]);
+    }
+
+    void run() { panbuckle_backward(rects.data(), rects.size(), points.data(), points.size(), result); }
+};
+
+void sort_corners(const Numbers &rects, std::vector<std::pair<int32_t, int32_t>> &sorted) {
+    sorted.clear();
+    for (size_t i = 0; i < rects.size(); i += 4)
+        for (int k = 0; k < 4; k++) sorted.emplace_back(rects[i + 1] + (k & 2 ? rects[i + 3] : 0), rects[i] + (k & 1 ? rects[i + 2] : 0));
+    std::sort(sorted.begin(), sorted.end());
+}
+
+void compare_backward(const char *number) {
+    Backward ours(number);
+    std::vector<std::pair<int32_t, int32_t>> sorted;
+    auto [our_best, their_best] = best_of([&] { ours.run(); }, [&] { sort_corners(ours.rects, sorted); });
+    if (ours.result[PANBUCKLE_ANSWER] != PANBUCKLE_DONE) give_up("backward refuses");
+    std::printf("backward %zu %" PRIu64 " %.5f %.5f\n", ours.rects.size() / 4, ours.result[PANBUCKLE_COUNT], our_best, their_best);
+}
+
+void show_stack(const char *file) {
+    Forward ours(file);
+    ours.run(0);
+    if (ours.result[PANBUCKLE_ANSWER] == PANBUCKLE_ROOM) ours.rects.resize(4 * ours.result[PANBUCKLE_PLACE]);
+    size_t forward = stack_of([&] { ours.run(ours.rects.size()); });
+    int32_t rect[4];
+    uint64_t result[3];
+    ours.work = ours.points;
+    size_t step = stack_of([&] { panbuckle_step(ours.work.data(), ours.work.size(), ours.work.size() / 2, rect, result); });
+    std::printf("%s %zu %zu %zu\n", name_of(file).c_str(), ours.points.size() / 2, forward, step);
+}
+
+void show_backward_stack(const char *number) {
+    Backward ours(number);
+    std::printf("backward %s %zu\n", number, stack_of([&] { ours.run(); }));
+}
+
+void time_program(const char *file, char **words) {
+    posix_spawn_file_actions_t actions;
+    posix_spawn_file_actions_init(&actions);
+    posix_spawn_file_actions_addopen(&actions, STDIN_FILENO, file, O_RDONLY, 0);
+    posix_spawn_file_actions_addopen(&actions, STDOUT_FILENO, "/dev/null", O_WRONLY, 0);
+    posix_spawn_file_actions_addopen(&actions, STDERR_FILENO, "/dev/null", O_WRONLY, 0);
+    double best = best_of([&] {
+        pid_t child;
+        int status;
+        if (posix_spawn(&child, words[0], &actions, nullptr, words, environ) != 0) give_up("the program cannot be started");
+        if (waitpid(child, &status, 0) != child || status != 0) give_up("the program did not end well");
+    });
+    posix_spawn_file_actions_destroy(&actions);
+    std::printf("%s %.5f\n", name_of(file).c_str(), best);
+}
+
+} // namespace
+
+int main(int count, char **words) {
+    std::string what = count > 1 ? words[1] : "";
+    if (what == "program" && count > 3) {
+        time_program(words[2], words + 3);
+        return 0;
+    }
+    for (int i = 2; i < count; i++) {
+        if (what == "forward") compare_forward(words[i]);
+        else if (what == "refused") time_refused(words[i]);
+        else if (what == "step") time_step(words[i]);
+        else if (what == "backward") compare_backward(words[i]);
+        else if (what == "stack") show_stack(words[i]);
+        else if (what == "backstack") show_backward_stack(words[i]);
+        else give_up("see the head of its source for what it does");
+    }
+    return 0;
+}

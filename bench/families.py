@@ -1,0 +1,204 @@
+"""The arrays that the comparison runs on: families of points that forward accepts, and arrays of 4,096 points that it refuses.
+
+Every array is made from its name and size alone, and its points stand in no order.
+"""
+
+import random
+
+# The most points that forward takes.
+MOST = 4096
+
+
+def box(x, y, w, h):
+    """The corners of a rectangle."""
+    return [(x, y), (x + w, y), (x, y + h), (x + w, y + h)]
+
+
+def odd_ones(points):
+    """The points that are given an odd number of times."""
+    left = set()
+    for point in points:
+        left ^= {point}
+    return sorted(left)
+
+
+def outline(cells):
+    """The points that mark a set of cells."""
+    return odd_ones(point for a, b in cells for point in box(a, b, 1, 1))
+
+
+def stretched(points, rng):
+    """The same shape with its rows and columns at uneven distances."""
+
+    def spread(numbers):
+        place, places = -1000, {}
+        for number in sorted(set(numbers)):
+            place += rng.randint(1, 40)
+            places[number] = place
+        return places
+
+    xs, ys = spread(x for x, _ in points), spread(y for _, y in points)
+    return [(xs[x], ys[y]) for x, y in points]
+
+
+def largest(n, shape, rng):
+    """The largest of growing shapes with at most n points."""
+    size, last = 3, []
+    while True:
+        points = outline(shape(size))
+        if len(points) > n:
+            return stretched(last, rng)
+        size, last = size + 1, points
+
+
+def rects(n, rng):
+    """Rectangles at random, none touching another, each in a square of its own."""
+    count, side = n // 4, 1
+    while side * side < 2 * count:
+        side += 1
+    squares = rng.sample([(i, j) for i in range(side) for j in range(side)], count)
+    boxes = [box(100 * i + rng.randint(0, 30), 100 * j + rng.randint(0, 30), rng.randint(5, 65), rng.randint(5, 65)) for i, j in squares]
+    return sum(boxes, [])
+
+
+def comb(n, _):
+    """A comb: one outline, with all tips of its teeth on one row."""
+    teeth = n // 4
+    points = [(0, 0), (20 * teeth - 10, 0)]
+    for i in range(teeth):
+        points += [(20 * i, 500), (20 * i + 10, 500)]
+        points += [(20 * i - 10, 50), (20 * i, 50)] if i else []
+    return points
+
+
+def stair(n, _):
+    """A staircase: one outline."""
+    steps = n // 2 - 1
+    points = [(0, 0), (10 * steps, 0)]
+    for i in range(steps):
+        points += [(10 * i, 10 * (steps - i)), (10 * (i + 1), 10 * (steps - i))]
+    return odd_ones(points)
+
+
+def rings(n, rng):
+    """A field of square rings."""
+    count = n // 8
+    side = int(count**0.5 + 0.999999)
+    points = []
+    for t in range(count):
+        x, y = 100 * (t % side), 100 * (t // side)
+        w, d = rng.randint(20, 80), rng.randint(2, 9)
+        points += box(x, y, w, w) + box(x + d, y + d, w - 2 * d, w - 2 * d)
+    return points
+
+
+def manhattan(n, rng):
+    """The outline of a maze's way, one right-angled polygon."""
+
+    def maze(size):
+        cells, path = {(0, 0)}, [(0, 0)]
+        while path:
+            x, y = path[-1]
+            ways = [(dx, dy) for dx, dy in ((2, 0), (-2, 0), (0, 2), (0, -2)) if 0 <= x + dx < 2 * size and 0 <= y + dy < 2 * size and (x + dx, y + dy) not in cells]
+            if not ways:
+                path.pop()
+                continue
+            dx, dy = rng.choice(ways)
+            cells |= {(x + dx // 2, y + dy // 2), (x + dx, y + dy)}
+            path.append((x + dx, y + dy))
+        return cells
+
+    return largest(n, maze, rng)
+
+
+def noise(n, rng):
+    """Cells at random, one in two."""
+    return largest(n, lambda size: {(i, j) for i in range(size) for j in range(size) if rng.random() < 0.5}, rng)
+
+
+def tall_bars(n, _):
+    """Bars side by side, every lower end below every upper end, all on rows of their own."""
+    bars = n // 4
+    return sum((box(20 * i, i, 10, 2 * bars) for i in range(bars)), [])
+
+
+def crossing_bars(n, _):
+    """As many upright bars as level ones, each crossing all of the others: about n * n / 32 rectangles."""
+    bars = n // 8
+    upright = [box(20 * i + 5, 0, 10, 20 * bars) for i in range(bars)]
+    level = [box(-5, 20 * i + 5, 20 * bars + 10, 10) for i in range(bars)]
+    return sum(upright + level, [])
+
+
+def diamond(n, _):
+    """Rows that widen and narrow again: n * n / 16 rectangles, the most that were found."""
+    half = n // 4
+    widens = [[(-10 * (i + 1), 10 * i), (10 * (i + 1), 10 * i)] for i in range(half)]
+    narrows = [[(-10 * (half - i), 10 * (half + i)), (10 * (half - i), 10 * (half + i))] for i in range(half)]
+    return sum(widens + narrows, [])
+
+
+FAMILIES = {family.__name__: family for family in (rects, comb, stair, rings, manhattan, noise, tall_bars, crossing_bars, diamond)}
+
+
+def family(name, n):
+    """An array of the family with about n points, and not more."""
+    rng = random.Random(f"{name} {n}")
+    points = FAMILIES[name](n, rng)
+    rng.shuffle(points)
+    return points
+
+
+def repeated_last(rng):
+    """The last point equal to the first."""
+    points = family("rects", MOST)
+    rng.shuffle(points)
+    return points[:-1] + points[:1]
+
+
+def odd_line_last(name, line):
+    """A family with one point moved out of its column (line 0) or off its row (line 1), and all that this makes odd at the end."""
+    points = family(name, MOST)
+    moved = points[0]
+    away = list(moved)
+    away[line] = max(point[line] for point in points) + 1
+    odd = [point for point in points[1:] if point[line] == moved[line]]
+    even = [point for point in points[1:] if point[line] != moved[line]]
+    return [*even, *odd, tuple(away)]
+
+
+def one_row(_):
+    """All points on one row."""
+    return [(x, 0) for x in range(MOST)]
+
+
+def one_point(_):
+    """All points the same."""
+    return [(0, 0)] * MOST
+
+
+def splits_badly(_):
+    """An order in which the middle of three is, at each split, nearly the least of all, as long as the sort splits."""
+    places, points = list(range(MOST)), [None] * MOST
+    for x in range(MOST):
+        n = len(places)
+        at = sorted({n // 4, n // 2, n - 1 - n // 4})[0] if n > 2 else 0
+        points[places.pop(at)] = (x, x)
+    return points
+
+
+# The arrays by name, and the refusal of each: REPEATED, ROW or COLUMN.
+REFUSED = {
+    "repeated_last": (repeated_last, 5),
+    "odd_row_last": (lambda _: odd_line_last("stair", 1), 6),
+    "odd_column_last": (lambda _: odd_line_last("stair", 0), 7),
+    "odd_column_last_of_bars": (lambda _: odd_line_last("tall_bars", 0), 7),
+    "one_row": (one_row, 7),
+    "one_point": (one_point, 5),
+    "splits_badly": (splits_badly, 6),
+}
+
+
+def refused(name):
+    """An array of 4,096 points that forward refuses."""
+    return REFUSED[name][0](random.Random(name))

@@ -1,0 +1,52 @@
+"""Checks that the comparison of bench/ builds and runs: on small arrays of every family Boost.Polygon covers the same area, and each array that
+is to be refused is refused for its reason. How long anything takes is not judged.
+
+Each fault is printed on a line. The last line is 'N passed, M failed', and the exit status is 0 exactly when M is 0.
+"""
+
+import os
+import subprocess
+import sys
+import tempfile
+from pathlib import Path
+
+from counting import report
+
+ROOT = Path(__file__).resolve().parent.parent
+sys.path.insert(0, str(ROOT / "bench"))
+
+from bench import Bench, built, ensure_tools  # noqa: E402
+from families import FAMILIES, MOST, REFUSED, family, refused  # noqa: E402
+
+FEW = 64
+
+
+def outcomes(bench):
+    """For each array what is wrong, or None."""
+    for name in FAMILIES:
+        points = family(name, FEW)
+        ((_, count, rects, *_),) = bench.rows("forward", bench.file(name, points))
+        yield None if int(count) == len(points) <= FEW and int(rects) > 0 else f"{name}: {count} points and {rects} rectangles"
+    for name, (_, number) in REFUSED.items():
+        ((_, count, answer, *_),) = bench.rows("refused", bench.file(name, refused(name)))
+        yield None if (int(count), int(answer)) == (MOST, number) else f"{name}: answer {answer}, not {number}, to {count} points"
+    ((_, count, points, *_),) = bench.rows("backward", "16")
+    yield None if (count, points) == ("16", "56") else f"backward: {points} points of {count} rectangles, and not 56"
+    ((_, _, forward, step),) = bench.rows("stack", bench.file("rects", family("rects", FEW)))
+    yield None if 0 < int(forward) < 16384 and 0 < int(step) < 16384 else f"stack: {forward} and {step} bytes"
+
+
+def main():
+    """Builds and runs the comparison, prints the faults and the counts, and gives the exit status."""
+    os.environ["COMPARE_FOR"] = "0"
+    ensure_tools()
+    if subprocess.run(["rt", "staticlib", "panbuckle_c"], cwd=ROOT, check=False, stdout=subprocess.DEVNULL).returncode != 0:
+        return report(0, ["the archive could not be made"])
+    with tempfile.TemporaryDirectory() as folder:
+        found = list(outcomes(Bench(folder, built(folder))))
+    faults = [fault for fault in found if fault]
+    return report(len(found) - len(faults), faults)
+
+
+if __name__ == "__main__":
+    sys.exit(main())

@@ -10,7 +10,7 @@ use lib.ListN.{length, getD, drop, length-append}
 use lib.Seq.{drop-cons, drop-drop, drop-length, getD-drop}
 use lib.Dec.{eqb}
 use Rattle.plane.specs.Lists.{bit}
-use Rattle.plane.proofs.Bools.{cond-case}
+use Rattle.plane.proofs.Bools.{cond-case, bit-most}
 use Rattle.numerals.specs.Inner.{Wrote}
 use Rattle.numerals.specs.Numerals.{decimal}
 use Rattle.numerals.proofs.Printing.{decimal-length}
@@ -112,7 +112,3 @@ module _ {out₀ : List ℕ} {at : ℕ} {template numbers out : List ℕ} {next 
         written = wrote-then (f .written) w (room-first at (length out₀) (f .done) (this ++ later) all-fits);
         rest = append-assoc (f .done) this later ∙ (rw (sym left-is) (f .rest));
       }
-    where
-      bit-most : (b : Bool) → bit b ≤ 1
-      bit-most true = omega arith
-      bit-most false = omega arith

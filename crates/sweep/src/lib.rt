@@ -17,7 +17,7 @@ ghost use Rattle.rule.specs.Rule.{ruleList};
 ghost use Rattle.rule.specs.Table.{verdict, ForwardAccepted};
 ghost use Rattle.rule.specs.Answers.{forwardAnswer, forwardWork, forwardOut};
 ghost use Rattle.checks.specs.Screens.{screenOf, rowOrder};
-ghost use Rattle.live.specs.Stands.{number};
+ghost use Rattle.live.specs.Stands.{far, number};
 ghost use Rattle.sweep.specs.Inner.{farPoint, farLive, liveAt, putLive, putRect, onRowOf, nextPoint, nextLive, nearer, cancelled, takenFrom, carrying, passing, closed, opening, newLive, endPut, endPutWork, cutTo, cutWork, atRow, Turned, endedBox, startOf, Underway, Advanced, KeptPast, zeroed, inputChecks, Ordered, Swept};
 use checks::Screen;
 use checks::order_points;
@@ -151,7 +151,7 @@ fn on_row(z: Sweep, p: Point) -> Point
 }
 
 fn is_far(p: Point) -> bool
-    ensures { λ r. ⌜ r ≡ eqZ (p .x) (pos 2_000_000_000) ⌝ }
+    ensures { λ r. ⌜ r ≡ eqZ (p .x) far ⌝ }
 {
     p.x == FAR
 }
@@ -201,7 +201,7 @@ fn is_at_left(v: Point, k: Live) -> bool
 }
 
 fn is_open(z: Sweep) -> bool
-    ensures { λ r. ⌜ r ≡ not (eqZ (z .opened) (pos 2_000_000_000)) ⌝ }
+    ensures { λ r. ⌜ r ≡ not (eqZ (z .opened) far) ⌝ }
 {
     z.opened != FAR
 }
@@ -252,7 +252,7 @@ fn after_point(z: Sweep) -> Sweep
 }
 
 fn without_carried(z: Sweep) -> Sweep
-    ensures { λ r. ⌜ r ≡ record { next = z .next; passed = z .passed; ahead = z .ahead; given = z .given; row = z .row; carried = pos 2_000_000_000; opened = z .opened } ⌝ }
+    ensures { λ r. ⌜ r ≡ record { next = z .next; passed = z .passed; ahead = z .ahead; given = z .given; row = z .row; carried = far; opened = z .opened } ⌝ }
 {
     Sweep {
         next: z.next,

@@ -103,7 +103,9 @@ cut-requires c κs = let e = c .before .before .before .before in room-here (com
 
 -- whether the end falls into it
 falls-is : (c : tie.After-falls-into) → let n = c .before .before .before .before in let o = n .before .before .before .before .before in ltZ (nearer (o .before .before .before .args .z) (o .on-row .result) .x) (n .before .next-live .result .right) ≡ c .falls-into .result
-falls-is c = rw (c .before .before .before .before .nearer-end .ensures) at (sym (c .falls-into .ensures))
+falls-is c =
+    let n = c .before .before .before .before in
+    ap (λ (v : Point). ltZ (v .x) (n .before .next-live .result .right)) (sym (n .nearer-end .ensures)) ∙ sym (c .falls-into .ensures)
 
 -- whether a rectangle is open
 open-is : (c : tie.After-is-open) → let z = c .before .before .before .before .before .before .before .before .before .before .before .args .z in not (eqZ (z .opened) far) ≡ c .is-open .result

@@ -15,6 +15,16 @@ abbrev pub screenOf : Verdict → Screen
 screenOf accepted = Clear
 screenOf (refused k p) = Refused k p
 
+-- document 01's number for each case: a clear screen is answer 0
+abbrev pub screenNumber : Screen → ℕ
+screenNumber Clear = 0
+screenNumber (Refused k p) = k
+
+-- and its place, 0 with answer 0; a screen has no other values
+abbrev pub screenPlace : Screen → ℕ
+screenPlace Clear = 0
+screenPlace (Refused k p) = p
+
 -- what `order_points` asks: 2, 4, 5, 6, 7
 unfoldable pub orderChecks : List Point → List Check
 orderChecks ps = MANY 4096 (length ps) ∷ pointChecks ps

@@ -16,10 +16,10 @@ use Rattle.plane.proofs.Bools.{and-parts, and-make, xor-false, false-xor, xor-b
 use Rattle.plane.proofs.Sums.{any-in, sum-in, sum-length}
 use Rattle.plane.proofs.Parity.{odd-none, once-odd}
 use Rattle.plane.proofs.Points.{same-is, same-in, same-refl, After, after-refl, after-trans, after-no, after-yes, before-above, before-along, before-all, before-apart, before-trans}
-use Rattle.rule.specs.Rule.{leftOf, rightOf, toggleFour, ruleList}
+use Rattle.rule.specs.Rule.{leftOf, rightOf, toggleFour, ruleList, IsFirst}
 use Rattle.rule.specs.Table.{Accepted}
 use Rattle.rule.proofs.Toggle.{odd-four}
-use Rattle.rule.proofs.Picks.{IsFirst, first-unique, higher}
+use Rattle.rule.proofs.Picks.{is-first, first-unique, higher}
 use Rattle.live.specs.declared.Live.{Live}
 use Rattle.live.specs.Stands.{after, rectNo, tops, far, stand, waiting, Sweeping}
 use Rattle.live.proofs.Numbered.{StepNo, after-accepted, step-no, sides-no, goes-on}
@@ -135,7 +135,7 @@ module _ {ps rest : List Point} {row c o h : ℤ} {g : ℕ} {A B : List Live} (a
 
     -- so it is K
     first-opening : IsFirst (λ p. true) (after ps g) opening
-    first-opening = record { within = opening-left; passes = refl; least = λ q m t. go q m (before q in-hand) refl }
+    first-opening = is-first opening-left refl (λ q m t. go q m (before q in-hand) refl)
       where
         go : (q : Point) → In q (after ps g) → (b : Bool) → before q in-hand ≡ b → After q opening
         go q m true f = rw (early-opening q m f) (after-refl opening)
@@ -144,7 +144,7 @@ module _ {ps rest : List Point} {row c o h : ℤ} {g : ℕ} {A B : List Live} (a
     -- and the one in hand is L
     first-hand : IsFirst (rightOf opening) (after ps g) in-hand
     unfolding rightOf onRow
-    first-hand = record { within = hand-left; passes = and-make (eqZ row row) (ltZ o h) (eqZ-refl row) (w .opened-first d .2); least = λ q m t. go q m t (before q in-hand) refl }
+    first-hand = is-first hand-left (and-make (eqZ row row) (ltZ o h) (eqZ-refl row) (w .opened-first d .2)) (λ q m t. go q m t (before q in-hand) refl)
       where
         go : (q : Point) → In q (after ps g) → rightOf opening q ≡ true → (b : Bool) → before q in-hand ≡ b → After q in-hand
         go q m t true f =

@@ -10,7 +10,7 @@ use lib.Seq.{take-append-seam, drop-append-seam}
 use lib.IntN.{ℤ}
 use Rattle.plane.specs.declared.Point.{Point}
 use Rattle.plane.specs.Lists.{any, odd}
-use Rattle.plane.specs.Words.{same, rising, holds, marks, pointsOf, flatPoints, rectsOf}
+use Rattle.plane.specs.Words.{same, rising, holds, marks, flatPoints, rectsOf}
 use Rattle.plane.proofs.Arrays.{points-append, length-flat-points}
 use Rattle.rule.specs.declared.BackwardAnswer.{BackwardAnswer}
 use Rattle.rule.specs.Back.{oddCorner, backList}
@@ -19,11 +19,7 @@ use Rattle.rule.specs.Answers.{written, backwardSays, backwardAnswer, backwardO
 use Rattle.rule.proofs.Refusals.{backward-refuses, backward-accepts-exactly, backward-accepted}
 use Rattle.rule.proofs.Memory.{backward-done-place, backward-refused-rest, backward-refused-out, backward-out-length}
 use Rattle.rule.proofs.Backward.{back-points, back-rising, back-marks}
-use Rattle.outline.specs.Contracts.{BackwardDone}
-
--- the points as the caller reads them: as many as the answer counts, from the start of the output
-abbrev pub pointsRead : BackwardAnswer → (out : List ℤ) → List Point
-pointsRead r out = take (r .count) (pointsOf out)
+use Rattle.outline.specs.Contracts.{BackwardDone, pointsListed}
 
 -- ---- Demand 1: for every input points or a numbered refusal, each exactly when its rule says so, and the output is then untouched
 
@@ -66,7 +62,7 @@ module _ {a out : List ℤ} {r : BackwardAnswer} {out-after : List ℤ} (d : Bac
   writes-points = rw (d .output, checks-accept)
 
   -- on 0 the output holds the points at its start
-  pub done-points : pointsRead r out-after ≡ backList (rectsOf a)
+  pub done-points : pointsListed r out-after ≡ backList (rectsOf a)
   done-points = let ps = backList (rectsOf a) in rw (answers-points, writes-points, points-append ps (drop (length (flatPoints ps)) out)) (take-append-seam ps _)
 
   -- as numbers they are its first ones, two for each point counted
@@ -78,13 +74,13 @@ module _ {a out : List ℤ} {r : BackwardAnswer} {out-after : List ℤ} (d : Bac
   done-rest = let ps = backList (rectsOf a) in rw (answers-points, writes-points, ← length-flat-points ps) (drop-append-seam (flatPoints ps) _)
 
   -- the count is of the points written, each once, in order of y, then x
-  pub done-rising : let points = pointsRead r out-after in (r .count ≡ length points) × (rising points ≡ true)
+  pub done-rising : let points = pointsListed r out-after in (r .count ≡ length points) × (rising points ≡ true)
   done-rising = rw (done-points, answers-points) (refl, back-rising (rectsOf a))
 
   -- a point is written exactly when it is a corner of an odd number of the rectangles
-  pub done-corners : (p : Point) → any (same p) (pointsRead r out-after) ≡ oddCorner (rectsOf a) p
+  pub done-corners : (p : Point) → any (same p) (pointsListed r out-after) ≡ oddCorner (rectsOf a) p
   done-corners = rw done-points (back-points (rectsOf a))
 
   -- the points mark exactly the cells that lie in an odd number of the rectangles
-  pub done-marks : (x y : ℤ) → marks (pointsRead r out-after) x y ≡ odd (holds x y) (rectsOf a)
+  pub done-marks : (x y : ℤ) → marks (pointsListed r out-after) x y ≡ odd (holds x y) (rectsOf a)
   done-marks = rw done-points (back-marks (rectsOf a) (backward-accepted a (length out) .0 checks-accept .rects))

@@ -7,7 +7,6 @@ use native.Mathlib.Omega.{arith}
 use mathlib.Core.List.{List, _++_}
 use lib.ListN.{length, take, drop}
 use lib.IntN.{ℤ}
-use Rattle.plane.specs.declared.Rect.{Rect}
 use Rattle.plane.specs.Lists.{odd}
 use Rattle.plane.specs.Words.{holds, pointsOf, flatPoints, rectsOf, inOrder}
 use Rattle.plane.proofs.Arrays.{points-flat}
@@ -18,8 +17,8 @@ use Rattle.rule.specs.Back.{backList}
 use Rattle.rule.proofs.Demands.{forward-then-backward, backward-then-forward, two-lists}
 use Rattle.outline.specs.Contracts.{BackwardDone}
 use Rattle.outline.proofs.Kept as back
-use Rattle.panbuckle.specs.Contracts.{ForwardDone, BackThenForward}
-use Rattle.panbuckle.proofs.Kept.{listOf, done-list, done-numbers, done-sums, answers-0}
+use Rattle.panbuckle.specs.Contracts.{ForwardDone, BackThenForward, listAfter}
+use Rattle.panbuckle.proofs.Kept.{done-list, done-numbers, done-sums, answers-0}
 
 -- ---- Forward and then backward
 
@@ -32,10 +31,6 @@ module _ {a work out : List ℤ} {r : ForwardAnswer} {work-after out-after : Lis
       rw (b .answer, b .output, done-numbers d done) (forward-then-backward a (length work) (length out) points (answers-0 d done) (omega arith) room)
 
 -- ---- Two rectangle lists
-
--- the forward list, as the caller reads it
-abbrev pub listAfter : {a : List ℤ} → BackThenForward a → List Rect
-listAfter t = listOf (t .answer) (t .out-after)
 
 module _ {a : List ℤ} (t : BackThenForward a) where
   -- the points given to forward are those of the rectangles

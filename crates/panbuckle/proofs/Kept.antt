@@ -1,32 +1,32 @@
 -- The customer's three demands, of whatever meets the contracts of forward and step: of the answer that the caller gets, and of the
 -- lent arrays as the caller finds them afterwards.
-use mathlib.Core.Path.{_≡_, refl}
+use mathlib.Core.Path.{_≡_, refl, sym, ap, _∙_}
 use mathlib.Core.Logic.{_≢_, _⊎_, _↔_}
-use Prim.Native.Nat.{ℕ, suc, _-_, _*_, _/_}
+use Prim.Native.Nat.{ℕ, suc, _-_, _*_, _/_, _≤_}
+use native.Mathlib.Omega.{arith}
 use mathlib.Core.Bool.{true}
 use mathlib.Core.List.{List, [], _++_, map}
-use lib.ListN.{length, take, drop, replicate}
+use lib.ListN.{length, take, drop, replicate, length-take}
 use lib.Seq.{take-append-seam, drop-append-seam}
 use lib.IntN.{ℤ, pos}
+use Rattle.plane.specs.declared.Point.{Point}
 use Rattle.plane.specs.declared.Rect.{Rect}
 use Rattle.plane.specs.Lists.{bit, count, sum}
-use Rattle.plane.specs.Words.{pointsOf, flatPoints, rectsOf, flatRects, rising, lowerLeft, areaOf, edgeOf, holds, marks, cells}
-use Rattle.plane.proofs.Arrays.{rects-append, length-flat-rects}
+use Rattle.plane.specs.Words.{pointsOf, flatPoints, flatRects, rising, lowerLeft, areaOf, edgeOf, holds, marks, cells}
+use Rattle.plane.proofs.Arrays.{length-points, rects-append, length-flat-rects}
 use Rattle.rule.specs.declared.ForwardAnswer.{ForwardAnswer}
 use Rattle.rule.specs.declared.StepAnswer.{StepAnswer}
 use Rattle.rule.specs.declared.StepAnswer.the-variants.{Rectangle}
-use Rattle.rule.specs.Rule.{step, ruleList}
-use Rattle.rule.specs.Table.{FirstGiven, forwardChecks, stepChecks, accepted, AcceptedRects}
-use Rattle.rule.specs.Answers.{written, forwardSays, forwardAnswer, forwardOut, stepNumber, stepPlace, stepValues}
+use Rattle.rule.specs.Rule.{step, ruleList, rowCount}
+use Rattle.rule.specs.Table.{FirstGiven, forwardChecks, stepChecks, accepted, Accepted, AcceptedRects}
+use Rattle.rule.specs.Answers.{written, Starts, forwardSays, forwardAnswer, forwardOut, stepNumber, stepPlace, stepValues}
 use Rattle.rule.proofs.Refusals.{forward-refuses, step-refuses, step-accepts-exactly, step-accepted}
-use Rattle.rule.proofs.Memory.{Starts, forward-done-place, forward-refused-rest, forward-refused-out, forward-refused-work, forward-zeroed-work, forward-work-length, forward-out-length, taken-step, step-refused-work, step-leaves, step-work-length}
+use Rattle.rule.proofs.Steps.{accepted-step}
+use Rattle.rule.proofs.Memory.{forward-done-place, forward-refused-rest, forward-refused-out, forward-refused-work, forward-zeroed-work, forward-work-length, forward-out-length, work-points, taken-step, step-refused-work, step-leaves, step-work-length}
+use Rattle.rule.proofs.Bound.{rule-bound}
 use Rattle.rule.proofs.Rising.{rule-rising, rule-rects}
 use Rattle.rule.proofs.Demands.{forward-verdict, array-accepted, forward-covers, forward-area, forward-canon}
-use Rattle.panbuckle.specs.Contracts.{ForwardDone, StepDone}
-
--- the list as the caller reads it: as many rectangles as the answer counts, from the start of the output
-abbrev pub listOf : ForwardAnswer → (out : List ℤ) → List Rect
-listOf r out = take (r .count) (rectsOf out)
+use Rattle.panbuckle.specs.Contracts.{ForwardDone, listOf, StepDone}
 
 -- ---- Demand 1: for every input a list or a numbered refusal, each exactly when its rule says so, and the output is then untouched
 
@@ -76,6 +76,17 @@ module _ {work : List ℤ} {n : ℕ} {r : StepAnswer} {work-after : List ℤ} (d
   pub step-left : stepNumber r ≡ 0 → let left = step (take n (pointsOf work)) .left in (take (2 * n) work-after ≡ flatPoints left ++ replicate (2 * (n - length left)) (pos 0)) × (drop (2 * n) work-after ≡ drop (2 * n) work)
   step-left = rw (d .answer, d .working) (step-leaves work n)
 
+-- a step keeps rows and columns even, points distinct and in range, and never adds to their number
+pub step-keeps : {work : List ℤ} {n : ℕ} {q : Rect} {m : ℕ} {work-after : List ℤ} → StepDone work n (Rectangle q m) work-after → Accepted (take m (pointsOf work-after)) × (m ≤ n)
+step-keeps {work} {n} {q} {m} d =
+    let c = step-accepted work n .0 (step-accepts-exactly work n .0 (ap stepNumber (sym (d .answer)))) in
+    let t = taken-step work n c in
+    let left : List Point = step (take n (pointsOf work)) .left in
+    let counted : m ≡ length left = cc (d .answer ∙ t .0) in
+    let many : length (take n (pointsOf work)) ≡ n = omega (arith, length-take n (pointsOf work), length-points work, c .working) in
+    let k = rw many at (accepted-step (take n (pointsOf work)) (rw many (c .some-left)) (c .points)) in
+    (rw (d .working, t .1, counted, work-points n left work (k .1)) (k .0), rw counted (k .1))
+
 -- ---- Demand 2: the list is the one given by the rule, rectangle for rectangle
 
 module _ {a work out : List ℤ} {r : ForwardAnswer} {work-after out-after : List ℤ} (d : ForwardDone a work out r work-after out-after) (done : r .answer ≡ 0) where
@@ -108,6 +119,10 @@ module _ {a work out : List ℤ} {r : ForwardAnswer} {work-after out-after : Lis
   -- the count, the area (the sum of W·H) and the edge (the sum of 2·(W+H)) are those of the rectangles written
   pub done-sums : let list = listOf r out-after in (r .count ≡ length list) × (r .area ≡ sum areaOf list) × (r .edge ≡ sum edgeOf list)
   done-sums = rw (done-list, answers-list) (refl, refl, refl)
+
+  -- n points on r different rows have at most (n/2)·(r-1) rectangles
+  pub done-bound : r .count ≤ length (pointsOf a) / 2 * (rowCount (pointsOf a) - 1)
+  done-bound = rw answers-list (rule-bound (pointsOf a) (array-accepted a (length work) (length out) answers-0))
 
   -- they come in strictly rising order of (Y, X), each with W and H at least 1, and X, Y, X+W, Y+H in range
   pub done-rising : let list = listOf r out-after in (rising (map lowerLeft list) ≡ true) × AcceptedRects list

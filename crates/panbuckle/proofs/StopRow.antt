@@ -20,10 +20,10 @@ use Rattle.plane.proofs.Sums.{any-find, any-in, count-in}
 use Rattle.plane.proofs.Parity.{odd-none-of, odd-cons, odd-cong, odd-none, odd-find, odd-append, odd-one}
 use Rattle.plane.proofs.Places.{in-at}
 use Rattle.plane.proofs.Points.{same-is, same-refl, odd-without, After, above, along, after-row}
-use Rattle.rule.specs.Rule.{firstOf, toggle, over, leftOf, stops, stopper, pickM}
+use Rattle.rule.specs.Rule.{firstOf, toggle, over, leftOf, stops, stopper, pickM, IsFirst, Picked}
 use Rattle.rule.specs.Table.{pointAt, Accepted}
 use Rattle.rule.proofs.Toggle.{toggle-length, odd-toggle, once-toggle}
-use Rattle.rule.proofs.Picks.{IsFirst, Picked, after-k, higher, clear, first-found, above-in-column, right-of, over-make}
+use Rattle.rule.proofs.Picks.{least, after-k, higher, clear, first-found, above-in-column, right-of, over-make}
 use Rattle.panbuckle.specs.Inner.{held, Begun, cross, overWidth, beside, IsHighest, Toggled, whole, given-up, OddBeside, Between}
 use Rattle.panbuckle.proofs.Scan.{held-length, held-next}
 use Rattle.panbuckle.proofs.Taking.{begun-picked}
@@ -220,14 +220,14 @@ even-first {work} {n} {k} g = record {
 -- nor has one below r's, where that is not above the end and no row of the table is below it
 even-to : {ps rows : List Point} {k low end r : Point} → EvenBelow k low ps → OddBeside k low end ps rows → leZ (r .y) (end .y) ≡ true → ((q : Point) → In q rows → leZ (r .y) (q .y) ≡ true) → EvenBelow k r ps
 unfolding same
-even-to {ps} {rows} {k} {low} {end} {r} b o high least = record { even = λ q d. by-no (odd (leftOf (k .x) (q .y)) ps) (λ e. go q d e (ltZ (q .y) (low .y)) refl) }
+even-to {ps} {rows} {k} {low} {end} {r} b o high lowest = record { even = λ q d. by-no (odd (leftOf (k .x) (q .y)) ps) (λ e. go q d e (ltZ (q .y) (low .y)) refl) }
   where
     go : (q : Point) → ltZ (q .y) (r .y) ≡ true → odd (leftOf (k .x) (q .y)) ps ≡ true → (t : Bool) → ltZ (q .y) (low .y) ≡ t → ⊥
     go q d e true t = clash e (b .even q t)
     go q d e false t =
         let g = odd-find (same (cross k q)) rows (rows-left o q (omega order) (omega order) ∙ e) in
         let i = and-parts (eqZ (k .x) (g .0 .x)) (eqZ (q .y) (g .0 .y)) (g .2) .1 in
-        let j = least (g .0) (g .1) in
+        let j = lowest (g .0) (g .1) in
         omega order
 
 -- nor has one below the end, where the table is empty
@@ -257,7 +257,7 @@ module _ {ps : List Point} {k l m p : Point} {z : ℤ} (c : Picked ps k l z) (w 
           let j = above-k in
           let a = and-parts (eqZ (q .0 .y) (s .y)) (leZ (k .x) (q .0 .x) && ltZ (q .0 .x) (l .x)) (q .2) in
           let g = a .0 in
-          let first : leZ (m .y) (q .0 .y) ≡ true = after-row (w .least (q .0) (q .1) (and-make (ltZ (k .y) (q .0 .y)) _ (omega order) (a .1))) in
+          let first : leZ (m .y) (q .0 .y) ≡ true = after-row (least w (q .0) (q .1) (and-make (ltZ (k .y) (q .0 .y)) _ (omega order) (a .1))) in
           omega order
       go d false e t = let i = on-m in clash t (b .even s (omega order))
 
@@ -297,5 +297,5 @@ module _ {work : List ℤ} {n : ℕ} {k l m : Point} (g : Begun work n k l) (at 
       let below-end = d .2 in
       let end-below-m = t .not-above in
       let odd-row : odd (leftOf (k .x) (p .y)) (held n work) ≡ true = sym (rows-left o p (d .1) (d .2)) ∙ rw (← q .3) (odd-one (same r) (f .within) (same-refl r) (o .once r)) in
-      let lowest : (s : Point) → In s rows → leZ (p .y) (s .y) ≡ true = λ s i. rw (q .3) at (after-row (f .least s i refl)) in
+      let lowest : (s : Point) → In s rows → leZ (p .y) (s .y) ≡ true = λ s i. rw (q .3) at (after-row (least f s i refl)) in
       q .3 ∙ is-m h first-over (q .1) (left-above h (q .1) (d .0)) (or-right (any (over (k .x) (l .x) (p .y)) (held n work)) _ odd-row) (omega order) (even-to b o (omega order) lowest)

@@ -10,9 +10,9 @@ use mir.Syntax.{w32}
 use mir.Val.{SFits}
 use Rattle.plane.specs.declared.Point.{Point}
 use Rattle.rule.specs.declared.StepAnswer.the-variants.{Rectangle}
-use Rattle.rule.specs.Rule.{pickM, rectOf, toggle, toggleFour, takeRect, step}
+use Rattle.rule.specs.Rule.{pickM, rectOf, toggle, toggleFour, takeRect, step, Picked}
 use Rattle.rule.specs.Answers.{workOf}
-use Rattle.rule.proofs.Picks.{Picked, picks-some}
+use Rattle.rule.proofs.Picks.{picks-some}
 use Rattle.rule.proofs.Steps.{step-lengths, step-sides}
 use Rattle.rule.specs.Table.{Accepted, StepAccepted}
 use Rattle.rule.proofs.Memory.{taken-step}

@@ -6,7 +6,7 @@ use mathlib.Core.List.{List, [], _∷_, _++_}
 use lib.ListN.{length, take, drop}
 use lib.IntN.{ℤ}
 use Rattle.plane.specs.declared.Rect.{Rect}
-use Rattle.plane.specs.Words.{pointsOf}
+use Rattle.plane.specs.Words.{pointsOf, rectsOf}
 use Rattle.rule.specs.declared.ForwardAnswer.{ForwardAnswer}
 use Rattle.rule.specs.declared.BackwardAnswer.{BackwardAnswer}
 use Rattle.rule.specs.declared.StepAnswer.{StepAnswer}
@@ -20,6 +20,10 @@ pub record ForwardDone (a work out : List ℤ) (r : ForwardAnswer) (work-after o
   pub answer : r ≡ forwardAnswer a (length work) (length out)
   pub working : work-after ≡ forwardWork a work (length out)
   pub output : out-after ≡ forwardOut a (length work) out
+
+-- the list as the caller reads it: as many rectangles as the answer counts, from the start of the output
+abbrev pub listOf : ForwardAnswer → (out : List ℤ) → List Rect
+listOf r out = take (r .count) (rectsOf out)
 
 -- a step, of a working array and a count of points: its answer, and the working array afterwards
 pub record StepDone (work : List ℤ) (n : ℕ) (r : StepAnswer) (work-after : List ℤ) : Type 0 where
@@ -60,3 +64,7 @@ pub record BackThenForward (a : List ℤ) : Type 0 where
   pub forth : ForwardDone (take (2 * said .count) points-after) work out answer work-after out-after
   pub working : 2 * said .count ≤ length work
   pub room : length (ruleList (pointsOf (take (2 * said .count) points-after))) ≤ length out / 4
+
+-- the forward list, as the caller reads it
+abbrev pub listAfter : {a : List ℤ} → BackThenForward a → List Rect
+listAfter t = listOf (t .answer) (t .out-after)

@@ -13,10 +13,10 @@ use Rattle.plane.specs.Words.{marks, holds}
 use Rattle.plane.proofs.Bools.{and-parts, and-make, or-right}
 use Rattle.plane.proofs.Sums.{any-find, any-in}
 use Rattle.plane.proofs.Alike.{Alike, alike-sym, alike-in, marks-alike}
-use Rattle.rule.specs.Rule.{over, leftOf, stops, stopper, toggleFour, ruleList}
+use Rattle.rule.specs.Rule.{over, leftOf, stops, stopper, toggleFour, ruleList, IsFirst, Picked}
 use Rattle.rule.specs.Table.{Accepted}
 use Rattle.rule.proofs.Toggle.{odd-four}
-use Rattle.rule.proofs.Picks.{IsFirst, first-unique, Picked}
+use Rattle.rule.proofs.Picks.{first-unique}
 use Rattle.rule.proofs.Steps.{four-accepted, Steps, stay, more}
 use Rattle.rule.proofs.Bound.{rule-steps}
 use Rattle.rule.proofs.Cover.{rule-covers}

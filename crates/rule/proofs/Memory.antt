@@ -19,18 +19,14 @@ use Rattle.rule.specs.declared.StepAnswer.the-variants.{Rectangle, Refus
 use Rattle.rule.specs.Rule.{Taken, step, ruleList}
 use Rattle.rule.specs.Back.{backList}
 use Rattle.rule.specs.Table.{numberOf, placeGiven, Verdict, accepted, refused, verdict, forwardChecks, backwardChecks, stepChecks, StepAccepted}
-use Rattle.rule.specs.Answers.{written, workOf, forwardSays, forwardAnswer, forwardOut, drained, forwardWork, backwardSays, backwardAnswer, backwardOut, stepSays, stepAnswer, stepLeaves, stepWork, stepNumber, stepPlace, stepValues}
+use Rattle.rule.specs.Answers.{written, Starts, workOf, forwardSays, forwardAnswer, forwardOut, drained, forwardWork, backwardSays, backwardAnswer, backwardOut, stepSays, stepAnswer, stepLeaves, stepWork, stepNumber, stepPlace, stepValues}
 use Rattle.rule.proofs.Verdicts.{numberIn, placeIn}
 use Rattle.rule.proofs.Refusals.{forward-says, backward-says, step-says, forward-accepts-exactly, forward-accepted, forward-lacks-room, forward-needs, backward-accepts-exactly, backward-accepted, step-accepts-exactly, step-accepted}
 use Rattle.rule.proofs.Steps.{accepted-step}
 
 -- ---- An output
 
--- the result stands at the start, and the rest is unchanged
-pub record Starts (result out exit : List ℤ) : Type 0 where
-  pub start : take (length result) exit ≡ result
-  pub rest : drop (length result) exit ≡ drop (length result) out
-
+-- what is accepted is written at the start, and the rest is unchanged
 written-done : (v : Verdict) (result out : List ℤ) → v ≡ accepted → Starts result out (written v result out)
 written-done v result out e = rw e (record { start = take-append-seam result _; rest = drop-append-seam result _ })
 

@@ -17,7 +17,7 @@ use Rattle.plane.proofs.Bools.{by, by-no, and-parts, and-make, clash, xor-false
 use Rattle.plane.proofs.Sums.{any-in}
 use Rattle.plane.proofs.Parity.{odd-find}
 use Rattle.plane.proofs.Points.{same-is, odd-without, After, above, along, after-refl, after-trans, after-row, after-no, after-yes, after-both, before-after, before-trans}
-use Rattle.rule.specs.Rule.{earlier, orFound, firstOf, pickK, pickL, pickM, rightOf, over, stops, stopper}
+use Rattle.rule.specs.Rule.{earlier, orFound, firstOf, pickK, pickL, pickM, rightOf, over, stops, stopper, IsFirst, Picked}
 use Rattle.rule.specs.Table.{Accepted}
 
 -- ---- The first point that passes a test
@@ -33,11 +33,13 @@ earlier-assoc p q (some r) = go (before r q) refl (before q p) refl
     go false e true d = rw (e, d)
     go false e false d = rw (d, by-no (before r p) (λ f. before-after r p f (after-trans (after-no r q e) (after-no q p d))))
 
--- k is in the list and passes, and every point of the list that passes is k or after it
-pub record IsFirst (f : Point → Bool) (ps : List Point) (k : Point) : Type 0 where
-  pub within : In k ps
-  pub passes : f k ≡ true
-  pub least : (q : Point) → In q ps → f q ≡ true → After q k
+-- every point of the list that passes is the first or after it
+pub least : {f : Point → Bool} {ps : List Point} {k : Point} → IsFirst f ps k → (q : Point) → In q ps → f q ≡ true → After q k
+least {k = k} t q n g = after-no q k (t .none-before q n g)
+
+-- a point that passes is the first if every one that passes is it or after it
+pub is-first : {f : Point → Bool} {ps : List Point} {k : Point} → In k ps → f k ≡ true → ((q : Point) → In q ps → f q ≡ true → After q k) → IsFirst f ps k
+is-first {k = k} n e h = record { within = n; passes = e; none-before = λ q i g. by-no (before q k) (λ b. before-after q k b (h q i g)) }
 
 data First (f : Point → Bool) (ps : List Point) : Option Point → Type 0 where
   nothing : ((q : Point) → In q ps → f q ≡ false) → First f ps none
@@ -52,18 +54,18 @@ first f [] = nothing empty
 first f (p ∷ ps) = go (f p) refl (firstOf f ps) (first f ps)
   where
     alone : f p ≡ true → ((q : Point) → In q ps → f q ≡ true → After q p) → IsFirst f (p ∷ ps) p
-    alone e h = record { within = head refl; passes = e; least = low }
+    alone e h = is-first (head refl) e low
       where
         low : (q : Point) → In q (p ∷ ps) → f q ≡ true → After q p
         low q (head d) g = rw d (after-refl p)
         low q (tail n) g = h q n g
 
     behind : {k : Point} → IsFirst f ps k → (f p ≡ true → After p k) → IsFirst f (p ∷ ps) k
-    behind {k} t h = record { within = tail (t .within); passes = t .passes; least = low }
+    behind {k} t h = is-first (tail (t .within)) (t .passes) low
       where
         low : (q : Point) → In q (p ∷ ps) → f q ≡ true → After q k
         low q (head d) g = rw d (h (subst (λ (r : Point). f r ≡ true) d g))
-        low q (tail n) g = t .least q n g
+        low q (tail n) g = least t q n g
 
     go : (b : Bool) → f p ≡ b → (o : Option Point) → First f ps o → First f (p ∷ ps) (orFound b p o)
     go false e none (nothing h) = nothing none-of
@@ -77,7 +79,7 @@ first f (p ∷ ps) = go (f p) refl (firstOf f ps) (first f ps)
       where
         choose : (c : Bool) → before k p ≡ c → First f (p ∷ ps) (some (cond c k p))
         choose true l = thing (behind t (λ g. after-yes k p l))
-        choose false l = thing (alone e (λ q n g. after-trans (t .least q n g) (after-no k p l)))
+        choose false l = thing (alone e (λ q n g. after-trans (least t q n g) (after-no k p l)))
 
 -- where some point passes, the first is found
 pub first-found : (f : Point → Bool) (ps : List Point) (d : Point) {q : Point} → In q ps → f q ≡ true → IsFirst f ps (Option·getD (firstOf f ps) d)
@@ -89,21 +91,14 @@ first-found f ps d {q} n e = go (firstOf f ps) (first f ps)
 
 -- the first is the only one, and is the same for lists with the same points that pass
 pub first-unique : {f g : Point → Bool} {ps qs : List Point} {k l : Point} → IsFirst f ps k → IsFirst g qs l → In k qs → g k ≡ true → In l ps → f l ≡ true → k ≡ l
-first-unique {k = k} {l} s t nk gk nl fl = same-is k l (after-both k l (s .least l nl fl) (t .least k nk gk))
+first-unique {k = k} {l} s t nk gk nl fl = same-is k l (after-both k l (least s l nl fl) (least t k nk gk))
 
 -- ---- K, L and M as document 01 describes them
-
-pub record Picked (ps : List Point) (k l : Point) (m : ℤ) : Type 0 where
-  pub first-k : IsFirst (λ p. true) ps k
-  pub first-l : IsFirst (rightOf k) ps l
-  pub on-m : Point
-  pub first-m : IsFirst (stopper k l ps) ps on-m
-  pub row-m : on-m .y ≡ m
 
 module _ {ps : List Point} {k l : Point} {m : ℤ} (c : Picked ps k l m) where
   -- every point is K or after it
   pub after-k : (q : Point) → In q ps → After q k
-  after-k q n = c .first-k .least q n refl
+  after-k q n = least (c .first-k) q n refl
 
   -- L is on K's row
   pub level : l .y ≡ k .y
@@ -118,7 +113,7 @@ module _ {ps : List Point} {k l : Point} {m : ℤ} (c : Picked ps k l m) where
   -- no point lies between K and L
   pub gap : (q : Point) → In q ps → q .y ≡ k .y → ltZ (k .x) (q .x) ≡ true → leZ (l .x) (q .x) ≡ true
   unfolding rightOf onRow
-  gap q n e h = go (c .first-l .least q n (and-make (onRow (k .y) q) (ltZ (k .x) (q .x)) (omega order) h))
+  gap q n e h = go (least (c .first-l) q n (and-make (onRow (k .y) q) (ltZ (k .x) (q .x)) (omega order) h))
     where
       go : After q l → leZ (l .x) (q .x) ≡ true
       go (above g) = let d = level in absurd (omega order)
@@ -133,7 +128,7 @@ module _ {ps : List Point} {k l : Point} {m : ℤ} (c : Picked ps k l m) where
   pub clear : (q : Point) → In q ps → ltZ (k .y) (q .y) ≡ true → ltZ (q .y) m ≡ true → stops ps (k .x) (l .x) (q .y) ≡ false
   unfolding stopper
   clear q n h g = by-no (stops ps (k .x) (l .x) (q .y)) (λ e.
-      let r = after-row (c .first-m .least q n (and-make (ltZ (k .y) (q .y)) (stops ps (k .x) (l .x) (q .y)) h e)) in
+      let r = after-row (least (c .first-m) q n (and-make (ltZ (k .y) (q .y)) (stops ps (k .x) (l .x) (q .y)) h e)) in
       let d = c .row-m in
       omega order)
 
@@ -174,7 +169,7 @@ module _ {ps : List Point} {k : Point} (acc : Accepted ps) (f : IsFirst (λ p. t
   l-exists =
       let q = another (onRow (k .y)) (f .within) (acc .once k) (eqZ-refl (k .y)) (acc .rows (k .y)) in
       let e : q .0 .y ≡ k .y = eqZ-is _ _ (q .3) in
-      first-found (rightOf k) ps k (q .1) (and-make _ _ (q .3) (apart-x k (q .0) (q .2) e (f .least (q .0) (q .1) refl)))
+      first-found (rightOf k) ps k (q .1) (and-make _ _ (q .3) (apart-x k (q .0) (q .2) e (least f (q .0) (q .1) refl)))
 
   -- K's column is even, so a point of it stands above K
   pub above-in-column : (q : Point) × In q ps × (q .x ≡ k .x) × (ltZ (k .y) (q .y) ≡ true)
@@ -182,7 +177,7 @@ module _ {ps : List Point} {k : Point} (acc : Accepted ps) (f : IsFirst (λ p. t
   above-in-column =
       let q = another (inColumn (k .x)) (f .within) (acc .once k) (eqZ-refl (k .x)) (acc .columns (k .x)) in
       let e : q .0 .x ≡ k .x = eqZ-is _ _ (q .3) in
-      (q .0, q .1, e, apart-y k (q .0) (q .2) e (f .least (q .0) (q .1) refl))
+      (q .0, q .1, e, apart-y k (q .0) (q .2) e (least f (q .0) (q .1) refl))
 
   -- that point stops
   m-exists : (l : Point) → ltZ (k .x) (l .x) ≡ true → IsFirst (stopper k l ps) ps (Option·getD (firstOf (stopper k l ps) ps) k)

@@ -14,11 +14,11 @@ use Rattle.plane.proofs.Bools.{xor-assoc, xor-back, xor-false, false-xor}
 use Rattle.plane.proofs.Parity.{odd-none-of, odd-append, once-odd}
 use Rattle.plane.proofs.Alike.{Alike}
 use Rattle.plane.proofs.Rising.{inOrder-rising, inOrder-has}
-use Rattle.rule.specs.Rule.{rectOf, ruleList}
+use Rattle.rule.specs.Rule.{rectOf, ruleList, Picked}
 use Rattle.rule.specs.Back.{corners, backList}
 use Rattle.rule.specs.Table.{Accepted, AcceptedRects}
 use Rattle.rule.proofs.Toggle.{odd-four}
-use Rattle.rule.proofs.Picks.{Picked, level}
+use Rattle.rule.proofs.Picks.{level}
 use Rattle.rule.proofs.Steps.{Steps, stay, more}
 use Rattle.rule.proofs.Bound.{rule-steps}
 use Rattle.rule.proofs.Rising.{rule-rects}

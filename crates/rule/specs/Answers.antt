@@ -1,5 +1,6 @@
 -- What each entry point answers, and what each lent array holds afterwards, as functions of what it was given.
 use Prim.Native.Nat.{ℕ, _-_, _*_, _/_}
+use mathlib.Core.Path.{_≡_}
 use mathlib.Core.Bool.{cond}
 use mathlib.Core.List.{List, [], _∷_, _++_}
 use lib.ListN.{length, take, drop, replicate}
@@ -23,6 +24,11 @@ use Rattle.rule.specs.Table.{Verdict, accepted, refused, verdict, forwar
 abbrev pub written : Verdict → (result out : List ℤ) → List ℤ
 written accepted result out = result ++ drop (length result) out
 written (refused k p) result out = out
+
+-- afterwards an array begins with these numbers, and past them it is as it was
+pub record Starts (numbers before after : List ℤ) : Type 0 where
+  pub start : take (length numbers) after ≡ numbers
+  pub rest : drop (length numbers) after ≡ drop (length numbers) before
 
 -- a working array given with n points that now holds ps: zeros after them, and past 2n unchanged
 unfoldable pub workOf : (n : ℕ) (ps : List Point) (work : List ℤ) → List ℤ

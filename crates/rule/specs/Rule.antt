@@ -1,7 +1,8 @@
 -- The forward rule of document 01: K, L, the amended stop row M, the rectangle, the four toggles, and the list.
 use Prim.Native.Nat.{ℕ, zero, suc, _-_, _*_}
+use mathlib.Core.Path.{_≡_}
 use mathlib.Core.Bool.{Bool, true, false, not, cond, _&&_, _||_}
-use mathlib.Core.List.{List, [], _∷_, _++_, map}
+use mathlib.Core.List.{List, [], _∷_, _++_, map, List·Memᴰ as In}
 use mathlib.Core.Option.{Option, none, some, Option·getD}
 use lib.ListN.{length, getD, take, set}
 use lib.IntN.{ℤ, _-ℤ_}
@@ -59,6 +60,20 @@ stopper k l ps p = ltZ (k .y) (p .y) && stops ps (k .x) (l .x) (p .y)
 -- M is the lowest row above K's that stops the rectangle
 unfoldable pub pickM : (k l : Point) → List Point → ℤ
 pickM k l ps = Option·getD (firstOf (stopper k l ps) ps) k .y
+
+-- k is in the list and passes a test, and no point of the list that passes comes before it
+pub record IsFirst (f : Point → Bool) (ps : List Point) (k : Point) : Type 0 where
+  pub within : In k ps
+  pub passes : f k ≡ true
+  pub none-before : (q : Point) → In q ps → f q ≡ true → before q k ≡ false
+
+-- the three exist: K is the first of all points, L the first right of it on its row, and M the row of the first that stops
+pub record Picked (ps : List Point) (k l : Point) (m : ℤ) : Type 0 where
+  pub first-k : IsFirst (λ p. true) ps k
+  pub first-l : IsFirst (rightOf k) ps l
+  pub on-m : Point
+  pub first-m : IsFirst (stopper k l ps) ps on-m
+  pub row-m : on-m .y ≡ m
 
 -- ---- The rectangle and the toggles
 

@@ -222,11 +222,23 @@ pub record AllGiven (a : List ℤ) (z : Sweep) (before : List ℤ) : Type 0 wher
   pub none-live : passedIn before z ++ aheadIn a before z ≡ []
   pub all-begun : z .given ≡ length (ruleList (pointsOf a))
 
+-- document 01's number for each case of a move: with a rectangle, or on the way to one, it is answer 0
+abbrev pub moveNumber : Move → ℕ
+moveNumber (Onward at) = 0
+moveNumber (Rectangle rect place at) = 0
+moveNumber (Refused k p) = k
+
+-- and its place, 0 with answer 0
+abbrev pub movePlace : Move → ℕ
+movePlace (Onward at) = 0
+movePlace (Rectangle rect place at) = 0
+movePlace (Refused k p) = p
+
 -- what a move does
 abbrev pub Advanced : (a : List ℤ) (z : Sweep) (before : List ℤ) → Move → (after : List ℤ) → Type 0
 Advanced a z before (Onward at) after = GoesOn a z before at after
 Advanced a z before (Rectangle rect place at) after = Gives a z before rect place at after
-Advanced a z before (Refused k p) after = (k ≡ 10) × (p ≡ 0) × AllGiven a z before
+Advanced a z before (Refused k p) after = (moveNumber (Refused k p) ≡ 10) × (movePlace (Refused k p) ≡ 0) × AllGiven a z before
 
 -- the list is counted and summed, and written if asked for
 pub record Swept (a : List ℤ) (writes : Bool) (before : List ℤ) (r : ForwardAnswer) (after : List ℤ) : Type 0 where

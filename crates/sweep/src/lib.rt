@@ -537,7 +537,8 @@ fn whole_list(count: usize, area: u64, edge: u64) -> ForwardAnswer
     }
 }
 
-// Moves until no point is left, sums the rectangles' areas and edges, and writes them if asked to. A move's only refusal is DRAINED.
+// Moves until one is refused, sums the rectangles' areas and edges, and writes them if asked to. DRAINED gives the list; any other refusal
+// would be passed on as it is, and is proved not to come.
 fn sweep_all(
     points: &[i32],
     order: &[u16],
@@ -568,10 +569,10 @@ fn sweep_all(
                 made += 1;
                 z = at;
             }
-            Move::Refused {
-                answer: _,
-                place: _,
-            } => {
+            Move::Refused { answer, place } => {
+                if answer != DRAINED {
+                    return no_list(answer, place);
+                }
                 return whole_list(made, area, edge);
             }
         }

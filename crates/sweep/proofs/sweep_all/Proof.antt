@@ -81,20 +81,28 @@ loop-again-2 c =
     let m = loop-of k .loop .inv in
     gives m (given k) (k .before .before .before .advance .ensures .1) (⊎-elim (λ w. output-put m (given k) (w .0 .taken) (w .4 ∙ w .2 .ensures)) (λ w. output-left m (given k) (w .0 .left) (w .1)) (j .if1 .came)) (c .before .area-of .ensures) (c .edge-of .ensures)
 
--- ---- All are given
+-- ---- A move that is refused
 
--- a move is refused when they are
-all : (c : tie.After-enum-told Inv-loop μ-loop) → let l = c .before .before .before .before .before in AllGiven (l .before .before .before .args .points .now) (l .loop .z) (l .loop .work)
-all c = rw (c .enum-told .given .1) at (c .before .before .before .advance .ensures .0) .2
+abbrev loop-ended : tie.After-answer Inv-loop μ-loop → tie.At-loop Inv-loop μ-loop
+loop-ended k = k .before .before .before .before .before
+
+-- the refusal is DRAINED, and comes when all are given
+refusal : (k : tie.After-answer Inv-loop μ-loop) → let l = loop-ended k in (k .answer .given .0 .0 ≡ 10) × (k .answer .given .0 .1 .0 ≡ 0) × AllGiven (l .before .before .before .args .points .now) (l .loop .z) (l .loop .work)
+refusal k = rw (k .answer .given .1) at (k .before .before .before .advance .ensures .0)
 
 -- the working array is kept to the end
-kept : (c : tie.After-enum-told Inv-loop μ-loop) → let l = c .before .before .before .before .before in let s = l .before .before .before in KeptPast (2 * (length (s .args .points .now) / 2)) (s .args .work .now) (c .before .before .before .advance .last .1 .1 .0)
-kept c = kept-on (c .before .before .before .before .before .loop .inv .kept) (c .before .before .before .advance .ensures .1)
+kept : (k : tie.After-answer Inv-loop μ-loop) → let l = loop-ended k in let s = l .before .before .before in KeptPast (2 * (length (s .args .points .now) / 2)) (s .args .work .now) (k .before .before .before .advance .last .1 .1 .0)
+kept k = kept-on (loop-ended k .loop .inv .kept) (k .before .before .before .advance .ensures .1)
 
+-- another refusal does not come
 returns : tie.Need-returns Inv-loop μ-loop
-returns c =
-    let t = c .before in
-    rw (c .whole-list .ensures) (all-made (t .before .before .before .before .before .loop .inv) (all t), kept t)
+returns c = absurd (c .before .if2 .taken (refusal (c .before .before .before) .0))
+
+-- DRAINED gives the list
+returns-2 : tie.Need-returns-2 Inv-loop μ-loop
+returns-2 c =
+    let k = c .before .before .before in
+    rw (c .whole-list .ensures) (all-made (loop-ended k .loop .inv) (refusal k .2), kept k)
 
 pub sweep-all-spec : {M : Type 1} → statement M
 sweep-all-spec =
@@ -119,6 +127,10 @@ sweep-all-spec =
     loop-again-2
     (λ c. search needs)
     (λ c κs. search needs)
-    (λ c. kept (c .before) .same-length)
-    (λ c. output-length (c .before .before .before .before .before .before .loop .inv))
-    returns)
+    (λ c. kept (c .before .before .before) .same-length)
+    (λ c. output-length (loop-ended (c .before .before .before) .loop .inv))
+    returns
+    (λ c κs. search needs)
+    (λ c. kept (c .before .before .before) .same-length)
+    (λ c. output-length (loop-ended (c .before .before .before) .loop .inv))
+    returns-2)

@@ -14,7 +14,7 @@ module _ (bytes : List ℕ) {r : Numeral} (d : r ≡ numeral (numberOf bytes)) w
   number-read z = rw d (go (numberOf bytes))
     where
       go : (o : Option ℤ) → ((numeralNumber (numeral o) ≡ 0) × (numeralValues (numeral o) ≡ z ∷ [])) ↔ (o ≡ some z)
-      go none = (λ e. cc, λ e. cc)
+      go none = (λ e. cc (e .0), λ e. (cc e, cc e))
       go (some y) = (λ e. cc, λ e. (refl, cc))
 
   -- TEXT exactly when they read as none

@@ -216,7 +216,7 @@ def check_paragraph(paragraph, tally):
             tally.fail(f"{place_of(line)}: not a line with one of the labels {', '.join(LABELS)}")
     if any(line.is_quote() for line in paragraph):
         below = list(dropwhile(Line.is_quote, paragraph))
-        whole = 0 < len(below) < len(paragraph) and all(LIST_LINE.match(line.text) for line in below)
+        whole = below and all(LIST_LINE.match(line.text) for line in below)
         tally.check(whole, f"{place_of(paragraph[0])}: not a quote and then a list of what keeps it")
 
 

@@ -352,7 +352,7 @@ class Contracts(CheckerCase):
         self.assert_function_fault((contract, f"{{ {contract} }}"), "has no `ensures`: method")
 
     def test_lent_array_without_ensures(self):
-        code = "pub fn first(a: &mut [u64]) {}\n"
+        code = "pub fn first(b: &[u64], a: &mut [u64]) {}\n"
         self.assert_fault({OTHER_SOURCE: code}, f"{OTHER_SOURCE}: the public function has no `ensures`: first")
 
     def test_two_functions_of_one_name(self):
@@ -476,7 +476,7 @@ class Document(CheckerCase):
         self.assert_quotes("- **A** `rt`: 1 |  2.\n2. Then *B*.", ["A rt: 1 2. Then B."])
 
     def test_line_of_a_code_block(self):
-        self.assert_quotes("```\n0 0 4 3\n```", ["0 0 4 3"])
+        self.assert_quotes("```text\n0 0 4 3\n```", ["0 0 4 3"])
 
     def test_headings_are_not_quoted(self):
         self.assert_quotes("## How it is\n\n### Well", [])

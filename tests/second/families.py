@@ -57,7 +57,7 @@ def stairs(_chance, count, _grid):
 
 
 def diamond(_chance, count, _grid):
-    """Boxes that are the wider the lower they are."""
+    """Boxes about one middle, from high and narrow to low and wide."""
     return [(count - i, i, 2 * i + 1, 2 * (count - i) + 1) for i in range(count)]
 
 

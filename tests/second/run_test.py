@@ -22,7 +22,7 @@ from plates import A, E, E_LIST, forward
 
 HEADER = HERE.parent.parent / "include" / "panbuckle.h"
 DECLARED = re.compile(r"\bpanbuckle_(\w+)\(([^)]*\bresult\[[^)]*)\)")
-PARAMETER = re.compile(r"(\w+)(?:\[\d+\])?(?:,|$)")
+PARAMETER = re.compile(r"(\w+)(?:\[[^]]*\])?(?:,|$)")
 
 SQUARE = call("forward", read(A), lent(9), lent(6))
 FILL, WIDE = "-1717171717", "17171717171717171717"

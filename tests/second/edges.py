@@ -85,16 +85,8 @@ def both(faults, first, second, numbers):
     return faults[first](faults[second](Case(numbers)))
 
 
-def in_order(pair, call_made, refusals):
-    """The call, after the definition has said that both refusals hold of it and none that comes before them."""
-    held = [number for number, _ in refusals]
-    if held[0] != pair[0] or pair[1] not in held:
-        raise ValueError(f"of {pair} only {held} hold")
-    return [call_made]
-
-
-def pair_groups():
-    """For any two refusals of a function that can hold at once, an array on which they do.
+def pairs():
+    """For any two refusals of a function that can hold at once, these and a call of which they do; run_test.py has the definition say so.
 
     All pairs can, but those with a step's DRAINED: a count of 0 is not over 4,096, no array is shorter than 0 numbers, and among no points
     there is none that offends. Where ROOM comes with a fault of the points or rectangles, the document has no result that could need room:
@@ -102,16 +94,18 @@ def pair_groups():
     """
     for pair in combinations(document.FORWARD_ORDER, 2):
         case = both(POINT_FAULTS, *pair, RING)
-        arguments = read(case.numbers), lent(len(case.numbers) // 2 * 2 - case.cut), lent(case.room)
-        yield in_order(pair, call("forward", *arguments), document.forward_refusals(*[argument.whole() for argument in arguments]))
+        yield pair, call("forward", read(case.numbers), lent(len(case.numbers) // 2 * 2 - case.cut), lent(case.room))
     for pair in combinations(document.BACKWARD_ORDER, 2):
         case = both(RECT_FAULTS, *pair, RING_LIST)
-        arguments = read(case.numbers), lent(case.room)
-        yield in_order(pair, call("backward", *arguments), document.backward_refusals(*[argument.whole() for argument in arguments]))
+        yield pair, call("backward", read(case.numbers), lent(case.room))
     for pair in combinations([number for number in document.STEP_ORDER if number != DRAINED], 2):
         case = both(POINT_FAULTS, *pair, RING)
-        work, count = lent(len(case.numbers) - case.cut, case.numbers), len(case.numbers) // 2
-        yield in_order(pair, call("step", work, count), document.step_refusals(work.whole(), count))
+        yield pair, call("step", lent(len(case.numbers) - case.cut, case.numbers), len(case.numbers) // 2)
+
+
+def pair_groups():
+    """The calls of which two refusals hold."""
+    return ([one] for _, one in pairs())
 
 
 # ---- Ends of the range

@@ -1,5 +1,5 @@
-"""Tests the comparison with the second implementation: that it notices what differs, that the table is the header's, and that document.py
-keeps what document 01 says follows from its rules.
+"""Tests the comparison with the second implementation: that it notices what differs, that the table is the header's, that two refusals hold
+where they should, and that document.py keeps what document 01 says follows from its rules.
 
 The last line is 'N passed, M failed', and the exit status is 0 exactly when M is 0.
 """
@@ -7,6 +7,7 @@ The last line is 'N passed, M failed', and the exit status is 0 exactly when M i
 import re
 import sys
 import unittest
+from collections import Counter
 from itertools import product
 from pathlib import Path
 
@@ -16,8 +17,9 @@ sys.path.insert(0, str(HERE.parent))
 import document
 import run
 from counting import run_tests
+from edges import pairs
 from families import grid_groups
-from functions import FUNCTIONS, call, lent, read
+from functions import FIXED, FUNCTIONS, call, lent, read
 from plates import A, E, E_LIST, forward
 
 HEADER = HERE.parent.parent / "include" / "panbuckle.h"
@@ -97,6 +99,22 @@ class Table(unittest.TestCase):
 
     def test_every_function_has_groups(self):
         self.assertEqual(set(run.FEWEST_GROUPS), set(FUNCTIONS))
+
+
+class Pairs(unittest.TestCase):
+    """The calls of which two refusals hold."""
+
+    REFUSALS = {"forward": document.forward_refusals, "step": document.step_refusals, "backward": document.backward_refusals}
+
+    def test_both_hold_and_none_before_them(self):
+        for pair, one in pairs():
+            parameters = [parameter for parameter in FUNCTIONS[one.name].parameters if parameter.kind != FIXED]
+            held = [number for number, _ in self.REFUSALS[one.name](*map(run.value_of, parameters, one.arguments))]
+            self.assertEqual((held[0], pair[1] in held), (pair[0], True), one.name)
+
+    def test_every_pair_but_those_with_drained(self):
+        counts = Counter(one.name for _, one in pairs())
+        self.assertEqual(counts, {"forward": 8 * 7 // 2, "backward": 5 * 4 // 2, "step": 6 * 5 // 2})
 
 
 class Definition(unittest.TestCase):

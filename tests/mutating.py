@@ -157,7 +157,7 @@ def crates_of(root):
     return {crate.strip(): [word for word in words.split() if word in named] for crate, words in named.items()}
 
 
-def all_mutants(root, left_out=()):
+def all_mutants(root):
     """Every mutant of a repository, in the order of its text."""
     mutants, known = [], Source()
     for crate in crates_of(root):
@@ -167,9 +167,8 @@ def all_mutants(root, left_out=()):
         for source in sources.values():
             known.parameters.update(source.parameters)
             known.fields.update(source.fields)
-        if crate not in left_out:
-            for path, text in texts.items():
-                mutants += mutants_of(crate, path.relative_to(root).as_posix(), text, sources[path], known)
+        for path, text in texts.items():
+            mutants += mutants_of(crate, path.relative_to(root).as_posix(), text, sources[path], known)
     return mutants
 
 

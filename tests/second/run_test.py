@@ -1,0 +1,155 @@
+"""Tests the comparison with the second implementation: that it notices what differs, that the table is the header's, that two refusals hold
+where they should, and that document.py keeps what document 01 says follows from its rules.
+
+The last line is 'N passed, M failed', and the exit status is 0 exactly when M is 0.
+"""
+
+import re
+import sys
+import unittest
+from collections import Counter
+from itertools import product
+from pathlib import Path
+
+HERE = Path(__file__).resolve().parent
+sys.path.insert(0, str(HERE.parent))
+
+import document
+import run
+from counting import run_tests
+from edges import pairs
+from families import grid_groups
+from functions import FIXED, FUNCTIONS, call, lent, read
+from plates import A, E, E_LIST, forward
+
+HEADER = HERE.parent.parent / "include" / "panbuckle.h"
+DECLARED = re.compile(r"\bpanbuckle_(\w+)\(([^)]*\bresult\[[^)]*)\)")
+PARAMETER = re.compile(r"(\w+)(?:\[[^]]*\])?(?:,|$)")
+
+SQUARE = call("forward", read(A), lent(9), lent(6))
+FILL, WIDE = "-1717171717", "17171717171717171717"
+RIGHT = f"0; 0 0 0 1 0 0 1*3; 0 0 0 0 0 0 0 0 0 {FILL}*1; 0 0 0 1 1 {FILL}*2; 0 0 0 1 1 4*1"
+
+
+class Comparison(unittest.TestCase):
+    """What is noticed of a call."""
+
+    def check(self, old, new, *words):
+        """If the driver prints this in place of what is right, the difference has these words."""
+        self.assertEqual(RIGHT.count(old), 1)
+        fault = run.difference(SQUARE, RIGHT.replace(old, new))
+        for word in words:
+            self.assertIn(word, fault)
+
+    def test_the_line_of_a_call(self):
+        wanted = f"forward i32 8 0 8 0 0 1 0 0 1 1 1 i32 9 {FILL} 0 i32 6 {FILL} 0 u64 5 {WIDE} 0"
+        self.assertEqual(run.line_of(SQUARE), wanted)
+        self.assertEqual(run.line_of(call("step", lent(2, (5, 6, 7)), 1)), f"step i32 2 {FILL} 2 5 6 usize 1 i32 4 {FILL} 0 u64 3 {WIDE} 0")
+
+    def test_what_is_right(self):
+        self.assertEqual(run.difference(SQUARE, RIGHT), "")
+
+    def test_a_changed_number(self):
+        self.check("0; 0 0 0 1 0", "8; 0 0 0 1 0", "it returned 8 instead of 0")
+        self.check("1 0 0 1*3", "1 0 0 1 1 2*1", "points[7] is 2 instead of 1, one of 1 such")
+        self.check(f"0 {FILL}*1", "0 0*1", f"work[8] is 0 instead of {FILL}")
+        self.check(f"1 1 {FILL}*2", f"1 2 {FILL}*2", "rects[3] is 2 instead of 1")
+        self.check("1 1 4*1", "1 1 5*1", "result[4] is 5 instead of 4")
+
+    def test_a_changed_length(self):
+        self.check(f"{FILL}*2", f"{FILL}*1", "rects has 5 numbers instead of 6")
+
+    def test_a_changed_guard(self):
+        self.check("; 0 0 0 0 0", "; 3 0 0 0 0", "3 bytes beside work are changed")
+
+    def test_what_is_missing(self):
+        self.check("; 0 0 0 1 1 4*1", "", "there are 3 arrays instead of 4")
+        self.check(RIGHT, "", "the driver printed ''")
+        self.check(RIGHT, "0; ", "the driver printed '0; '")
+
+    def test_a_driver_that_ends_early(self):
+        command = [sys.executable, "-c", "import sys; print(input()); sys.exit('gone')"]
+        first, second, third = run.printed(command, [SQUARE] * 3)
+        self.assertEqual((first, second), (run.line_of(SQUARE), third))
+        self.assertEqual(second, "no line, and ended with status 1. gone")
+        self.assertIn(second, run.difference(SQUARE, second))
+
+    def test_what_the_document_states(self):
+        plate = forward(E, 8, (0, 0, 3, None, 8), E_LIST)
+        faults = list(run.stated_faults(plate, run.outcome_of(plate)))
+        self.assertEqual(faults, ["result begins with [0, 0, 2, 2, 8], and document 01 states [0, 0, 3, None, 8]"])
+
+    def test_what_was_not_compared(self):
+        tally = run.Tally()
+        tally.groups["forward"] = run.FEWEST_GROUPS["forward"]
+        tally.add(SQUARE, RIGHT)
+        gaps = list(tally.gaps())
+        self.assertIn("forward: no call is answered with LENGTH, MANY, WORK, RANGE, REPEATED, ROW, COLUMN, ROOM", gaps)
+        self.assertIn(f"step: there are 0 arrays, and at least {run.FEWEST_GROUPS['step']} are wanted", gaps)
+        self.assertEqual((len(gaps), tally.faults), (5, []))
+
+
+class Table(unittest.TestCase):
+    """The table of functions."""
+
+    def test_every_function_of_the_header(self):
+        found = DECLARED.findall(HEADER.read_text(encoding="utf-8"))
+        declared = {name: [word for word in PARAMETER.findall(words) if not word.endswith("_length")] for name, words in found}
+        self.assertEqual(declared, {name: [one.name for one in function.parameters] for name, function in FUNCTIONS.items()})
+
+    def test_every_function_has_groups(self):
+        self.assertEqual(set(run.FEWEST_GROUPS), set(FUNCTIONS))
+
+
+class Pairs(unittest.TestCase):
+    """The calls of which two refusals hold."""
+
+    REFUSALS = {"forward": document.forward_refusals, "step": document.step_refusals, "backward": document.backward_refusals}
+
+    def test_both_hold_and_none_before_them(self):
+        for pair, one in pairs():
+            parameters = [parameter for parameter in FUNCTIONS[one.name].parameters if parameter.kind != FIXED]
+            held = [number for number, _ in self.REFUSALS[one.name](*map(run.value_of, parameters, one.arguments))]
+            self.assertEqual((held[0], pair[1] in held), (pair[0], True), one.name)
+
+    def test_every_pair_but_those_with_drained(self):
+        counts = Counter(one.name for _, one in pairs())
+        self.assertEqual(counts, {"forward": 8 * 7 // 2, "backward": 5 * 4 // 2, "step": 6 * 5 // 2})
+
+
+class Definition(unittest.TestCase):
+    """What document 01 says follows from its rules, of every accepted array of a grid of 3 by 4."""
+
+    @classmethod
+    def setUpClass(cls):
+        given = [one.arguments[0].numbers for group in grid_groups() for one in group if one.name == "forward"]
+        cls.accepted = [numbers for numbers in given if next(document.refusals_of_points(document.points_of(numbers)), None) is None]
+
+    def test_there_are_enough(self):
+        self.assertEqual(len(self.accepted), 64)
+
+    def test_forward_is_stepped(self):
+        for numbers in self.accepted:
+            work, count, made = list(numbers), len(numbers) // 2, []
+            while count > 0:
+                _, _, count, rect = document.step(work, count)
+                made.append(rect)
+            self.assertEqual((made, work), (document.rectangles(document.points_of(numbers)), [0] * len(numbers)))
+
+    def test_each_marked_cell_is_in_one_rectangle(self):
+        for numbers in self.accepted:
+            points = document.points_of(numbers)
+            for a, b in product(range(-1, 4), repeat=2):
+                marked = document.odd(sum(x <= a and y <= b for x, y in points))
+                holding = sum(x <= a < x + w and y <= b < y + h for x, y, w, h in document.rectangles(points))
+                self.assertEqual(holding, int(marked))
+
+    def test_there_and_back(self):
+        for numbers in self.accepted:
+            points = document.points_of(numbers)
+            back = document.corners(tuple(document.rectangles(points)))
+            self.assertEqual(back, sorted(points, key=lambda point: point[::-1]))
+
+
+if __name__ == "__main__":
+    sys.exit(run_tests(__name__))

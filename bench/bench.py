@@ -39,12 +39,15 @@ def ensure_tools():
 
 
 def built(folder):
-    """The program compare.cpp, built with the archive in a folder. Boost's headers serve any compiler, also one that does not look there."""
+    """The program compare.cpp, built with the archive in a folder. Boost's headers serve any compiler, also one that does not look there.
+    It is not static, since Debian's cross libm.a names files that are not there; and its symbols are bound at the start, so that the loader
+    does not bind one on a stack that is measured."""
     program = Path(folder) / "compare"
     headers = Path(folder) / "headers"
     headers.mkdir()
     (headers / "boost").symlink_to(POLYGON.parent.parent)
-    run(COMPILER, "-std=c++17", "-O3", "-static", f"-I{ROOT / 'include'}", f"-I{headers}", ROOT / "bench" / "compare.cpp", ARCHIVE, "-o", program)
+    words = ["-std=c++17", "-O3", "-Wl,-z,now", f"-I{ROOT / 'include'}", f"-I{headers}"]
+    run(COMPILER, *words, ROOT / "bench" / "compare.cpp", ARCHIVE, "-o", program)
     return program
 
 
@@ -57,6 +60,14 @@ def kit():
 def emulator():
     """The words that come before an x86-64 program to run it here."""
     return [] if NATIVE else [kit() / "bin" / "qemu-x86_64"]
+
+
+def with_libraries():
+    """The same words for a program that is not static: the emulator takes libraries from the folder where the cross compiler has its own."""
+    if NATIVE:
+        return []
+    library = Path(run(COMPILER, "-print-file-name=libc.so.6").strip()).resolve()
+    return [*emulator(), "-L", library.parent.parent]
 
 
 def kit_program(name):
@@ -72,7 +83,7 @@ class Bench:
 
     def __init__(self, folder, program):
         self.folder = Path(folder)
-        self.command = [*emulator(), program]
+        self.command = [*with_libraries(), program]
 
     def rows(self, what, *words):
         """What the program prints, each line in words."""

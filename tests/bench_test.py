@@ -15,7 +15,7 @@ from counting import report
 ROOT = Path(__file__).resolve().parent.parent
 sys.path.insert(0, str(ROOT / "bench"))
 
-from bench import Bench, built, ensure_tools  # noqa: E402
+from bench import Bench, built, ensure_tools, run  # noqa: E402
 from families import FAMILIES, MOST, REFUSED, family, refused  # noqa: E402
 
 FEW = 64
@@ -39,11 +39,14 @@ def outcomes(bench):
 def main():
     """Builds and runs the comparison, prints the faults and the counts, and gives the exit status."""
     os.environ["COMPARE_FOR"] = "0"
-    ensure_tools()
-    if subprocess.run(["rt", "staticlib", "panbuckle_c"], cwd=ROOT, check=False, stdout=subprocess.DEVNULL).returncode != 0:
-        return report(0, ["the archive could not be made"])
-    with tempfile.TemporaryDirectory() as folder:
-        found = list(outcomes(Bench(folder, built(folder))))
+    found = []
+    try:
+        ensure_tools()
+        run("rt", "staticlib", "panbuckle_c", cwd=ROOT)
+        with tempfile.TemporaryDirectory() as folder:
+            found += outcomes(Bench(folder, built(folder)))
+    except subprocess.CalledProcessError as failure:
+        found.append(f"a command ended badly: {failure}")
     faults = [fault for fault in found if fault]
     return report(len(found) - len(faults), faults)
 

@@ -12,7 +12,7 @@ import sys
 import tempfile
 from pathlib import Path
 
-from families import FAMILIES, REFUSED, family, refused
+from families import FAMILIES, ORDERS, RECTANGLES, REFUSED, family, rectangles, refused
 
 ROOT = Path(__file__).resolve().parent.parent
 ARCHIVE = ROOT / "target" / "staticlib" / "libpanbuckle_c.a"
@@ -21,7 +21,10 @@ COMPILER = "g++" if NATIVE else "x86_64-linux-gnu-g++"
 PACKAGES = ["g++"] if NATIVE else ["g++-x86-64-linux-gnu"]
 POLYGON = Path("/usr/include/boost/polygon/polygon.hpp")
 SIZES = (512, 1024, 2048, 4096)
-RECTANGLES = (1024, 4096, 16384)
+COUNTS = (1024, 4096, 16384)
+# The most stack is used where a sort goes deepest, which takes few rectangles, or where backward's array of keys is filled once or more.
+STACK_SIZES = (64, 4096)
+STACK_COUNTS = (*range(1, 65), 384, 385, 768, 769, 1536, 4096, 16384)
 
 
 def run(*words, **named):
@@ -89,10 +92,10 @@ class Bench:
         """What the program prints, each line in words."""
         return [line.split() for line in run(*self.command, what, *words).splitlines()]
 
-    def file(self, name, points):
-        """A file of points."""
+    def file(self, name, items):
+        """A file of points or rectangles."""
         path = self.folder / f"{name}.txt"
-        path.write_text("".join(f"{x} {y}\n" for x, y in points), encoding="utf-8")
+        path.write_text("".join(" ".join(map(str, item)) + "\n" for item in items), encoding="utf-8")
         return path
 
 
@@ -127,7 +130,7 @@ def show_growth(times, sizes):
 
 def compare_backward(bench):
     """Backward against a sort."""
-    rows = bench.rows("backward", *RECTANGLES)
+    rows = bench.rows("backward", *COUNTS)
     table(["rectangles", "points", "backward, ms", "std::sort, ms", "ratio"], [[count, points, ours, theirs, f"{float(ours) / float(theirs):.2f}"] for _, count, points, ours, theirs in rows])
 
 
@@ -137,13 +140,27 @@ def show_refused(bench):
     table(["refused", "points", "answer", "place", "ms"], [[name.replace("_", " "), *rest] for name, *rest in bench.rows("refused", *files)])
 
 
+def point_files(bench, sizes):
+    """Files of the families of these sizes in every order, and of the refused arrays."""
+    for name in FAMILIES:
+        for n in sizes:
+            points = family(name, n)
+            yield bench.file(f"{name}_{n}", points)
+            yield from (bench.file(f"{name}_{n}_{order}", put(points)) for order, put in ORDERS.items())
+    yield from (bench.file(name, refused(name)) for name in REFUSED)
+
+
+def most_stack(bench, sizes, counts):
+    """The most bytes of stack that a call of each function uses, over points of these sizes and these counts of rectangles."""
+    rows = bench.rows("stack", *point_files(bench, sizes))
+    files = [bench.file(f"{name}_{count}", rectangles(name, count)) for name in RECTANGLES for count in counts]
+    backward = bench.rows("backstack", *files)
+    return {"forward": max(int(row[2]) for row in rows), "step": max(int(row[3]) for row in rows), "backward": max(int(row[2]) for row in backward)}
+
+
 def show_stack(bench):
-    """The most stack that a call uses, over all families and refused arrays of 4,096 points, and rectangles at random."""
-    files = [bench.file(name, family(name, SIZES[-1])) for name in FAMILIES] + [bench.file(name, refused(name)) for name in REFUSED]
-    rows = bench.rows("stack", *files)
-    most = {"forward": max(int(row[2]) for row in rows), "step": max(int(row[3]) for row in rows)}
-    most["backward"] = max(int(row[2]) for row in bench.rows("backstack", *RECTANGLES))
-    table(["call", "bytes of stack, at most"], most.items())
+    """The most stack that each call uses."""
+    table(["call", "bytes of stack, at most"], most_stack(bench, STACK_SIZES, STACK_COUNTS).items())
 
 
 def show_fracture(bench, name, n):

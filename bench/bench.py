@@ -66,7 +66,7 @@ def emulator():
 
 
 def with_libraries():
-    """The same words for a program that is not static: the emulator takes libraries from the folder where the cross compiler has its own."""
+    """The same words for a program that is not static: the emulator takes libraries from where the cross compiler has its own."""
     if NATIVE:
         return []
     library = Path(run(COMPILER, "-print-file-name=libc.so.6").strip()).resolve()
@@ -152,10 +152,10 @@ def point_files(bench, sizes):
 
 def most_stack(bench, sizes, counts):
     """The most bytes of stack that a call of each function uses, over points of these sizes and these counts of rectangles."""
-    rows = bench.rows("stack", *point_files(bench, sizes))
+    points = bench.rows("stack", *point_files(bench, sizes))
     files = [bench.file(f"{name}_{count}", rectangles(name, count)) for name in RECTANGLES for count in counts]
-    backward = bench.rows("backstack", *files)
-    return {"forward": max(int(row[2]) for row in rows), "step": max(int(row[3]) for row in rows), "backward": max(int(row[2]) for row in backward)}
+    columns = {"forward": (points, 2), "step": (points, 3), "backward": (bench.rows("backstack", *files), 2)}
+    return {name: max(int(row[column]) for row in rows) for name, (rows, column) in columns.items()}
 
 
 def show_stack(bench):

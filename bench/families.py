@@ -1,7 +1,8 @@
 """The arrays that the comparison runs on: families of points that forward accepts, arrays of 4,096 points that it refuses, and families of
 rectangles, for the stack that backward uses on them.
 
-Every array is made from its name and size alone. The points of a family stand in no order; ORDERS has others, in which a sort may go deeper.
+Every array is made from its name and size alone. The points of a family stand in no order; ORDERS has others, in which a sort may go
+deeper.
 """
 
 import random
@@ -224,9 +225,14 @@ def in_a_row(numbers):
     return [(3 * number, 3 * number, 2, 2) for number in numbers]
 
 
+def any_rectangle(rng):
+    """A rectangle at random."""
+    return rng.randint(-9999, 9999), rng.randint(-9999, 9999), rng.randint(1, 99), rng.randint(1, 99)
+
+
 # Families of rectangles: each makes a number of them.
 RECTANGLES = {
-    "any": lambda count, rng: [(rng.randint(-9999, 9999), rng.randint(-9999, 9999), rng.randint(1, 99), rng.randint(1, 99)) for _ in range(count)],
+    "any": lambda count, rng: [any_rectangle(rng) for _ in range(count)],
     "equal": lambda count, _: [(0, 0, 1, 1)] * count,
     "seven_in_turn": lambda count, _: in_a_row(i % 7 for i in range(count)),
     "rising": lambda count, _: in_a_row(range(count)),

@@ -1,6 +1,6 @@
-"""Checks the C face: the header against the source and the archive, what the compiler warns of, that a header of another version does not
-link, the program of examples/c, built with the archive, against the outputs to which tests/pairs.py holds fracture, and every answer against
-what tests/refusals.c expects.
+"""Checks the C face: the header against the source and the archive; what the compiler warns of; that a header of another version does not
+link; the program of examples/c, built with the archive, against the outputs to which tests/pairs.py holds fracture; and every answer
+against what tests/refusals.c expects.
 
 The archive is for x86-64. On such a machine the program is built with its C compiler and runs as it is; on another one it is built with a
 cross compiler and runs under the kit's emulator. `rt ci` before has proved the crates.
@@ -32,8 +32,8 @@ DROPPING = ["-ffunction-sections", "-fdata-sections", "-Wl,--gc-sections"]
 PLATE = ROOT / "examples" / "c" / "plate.c"
 # What the program says, with status 2, of an input that fracture refuses to read.
 UNREAD = b"plate: the input is no list of at most 4096 points, a line x y for each\n"
-# No line is bad and there are not too many of them, but of the bytes.
-TOO_LONG = 4096 * b"00000000 00000000\n"
+# Good lines, and not too many of them; but 65,537 bytes.
+TOO_LONG = 3640 * b"00000000 00000000\n" + b"0000000 00000000\n"
 # The steps of a longer input take long under an emulator.
 MOST_LINES = 200
 FEWEST_INPUTS = 90
@@ -168,7 +168,7 @@ def other_version(header):
 
 
 def version_faults(folder, header):
-    """For each of two ways to link what is wrong, or None: this version's header links, and for another's the version's function is not there."""
+    """For each of two ways to link what is wrong, or None: this version's header links, and for another's its version is not there."""
     other = Path(folder) / "other"
     other.mkdir()
     text, function = other_version(header)
@@ -178,7 +178,7 @@ def version_faults(folder, header):
             status, said = said_by(COMPILER, *WORDS, *more, f"-I{headers}", PLATE, ARCHIVE, "-o", other / "plate")
             undefined = re.findall(r"undefined reference to `(\w+)'", said)
             ends_well = (status == 0) == (wanted == [])
-            yield None if undefined == wanted and ends_well else f"with {more} it ends with {status}, for {undefined} and not {wanted}: {said}"
+            yield None if undefined == wanted and ends_well else f"linked with {more} it lacks {undefined}, and not {wanted}: {said}"
 
 
 def emulator():
@@ -207,7 +207,7 @@ def inputs():
         data, printed = input_of(source), source.with_suffix(".out").read_bytes()
         if is_unread(printed) or data.count(b"\n") <= MOST_LINES:
             yield source.relative_to(ROOT), data, printed
-    yield "good lines with too many bytes", TOO_LONG, b"refused 2 place 0\n"
+    yield "good lines with a byte too many", TOO_LONG, b"refused 2 place 0\n"
 
 
 def is_unread(printed):

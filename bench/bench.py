@@ -19,6 +19,7 @@ ARCHIVE = ROOT / "target" / "staticlib" / "libpanbuckle_c.a"
 NATIVE = platform.machine() == "x86_64"
 COMPILER = "g++" if NATIVE else "x86_64-linux-gnu-g++"
 PACKAGES = ["g++"] if NATIVE else ["g++-x86-64-linux-gnu"]
+LOADER = "ld-linux-x86-64.so.2"
 POLYGON = Path("/usr/include/boost/polygon/polygon.hpp")
 SIZES = (512, 1024, 2048, 4096)
 COUNTS = (1024, 4096, 16384)
@@ -65,20 +66,19 @@ def emulator():
     return [] if NATIVE else [kit() / "bin" / "qemu-x86_64"]
 
 
-def with_libraries():
-    """The same words for a program that is not static: the emulator takes libraries from where the cross compiler has its own."""
-    if NATIVE:
-        return []
-    library = Path(run(COMPILER, "-print-file-name=libc.so.6").strip()).resolve()
-    return [*emulator(), "-L", library.parent.parent]
+def with_libraries(program, loader):
+    """The words that run a program that is not static: under the emulator with a loader, and the libraries that stand beside it."""
+    return [program] if NATIVE else [*emulator(), loader, "--library-path", loader.parent, program]
 
 
 def kit_program(name):
-    """The words that run a program of this repository."""
-    program = ROOT / "target" / "bin" / name
-    if NATIVE:
-        return [program]
-    return [*emulator(), kit() / "lib" / "ld-linux-x86-64.so.2", "--library-path", kit() / "lib", program]
+    """The words that run a program of this repository, with the kit's libraries."""
+    return with_libraries(ROOT / "target" / "bin" / name, kit() / "lib" / LOADER)
+
+
+def cross_program(program):
+    """The words that run a program that was built here, with the cross compiler's libraries."""
+    return with_libraries(program, Path(run(COMPILER, f"-print-file-name={LOADER}").strip()).resolve())
 
 
 class Bench:
@@ -86,7 +86,7 @@ class Bench:
 
     def __init__(self, folder, program):
         self.folder = Path(folder)
-        self.command = [*with_libraries(), program]
+        self.command = cross_program(program)
 
     def rows(self, what, *words):
         """What the program prints, each line in words."""

@@ -1,6 +1,6 @@
-"""Checks the C face: the header against the source and the archive; what the compiler warns of; that a header of another version does not
-link; the program of examples/c, built with the archive, against the outputs to which tests/pairs.py holds fracture; and every answer
-against what tests/refusals.c expects.
+"""Checks the C face: the header and the Rust declarations against the source, and the header against the archive; what the compiler warns
+of; that a header of another version does not link; the program of examples/c, built with the archive, against the outputs to which
+tests/pairs.py holds fracture; and every answer against what tests/refusals.c expects.
 
 The archive is for x86-64. On such a machine the program is built with its C compiler and runs as it is; on another one it is built with a
 cross compiler and runs under the kit's emulator. `rt ci` before has proved the crates.
@@ -30,6 +30,7 @@ WORDS = ["-std=c11", "-O2", "-Wall", "-Wextra", "-Wpedantic", "-Werror", "-stati
 # A linker that is told so drops what no call leads to.
 DROPPING = ["-ffunction-sections", "-fdata-sections", "-Wl,--gc-sections"]
 PLATE = ROOT / "examples" / "c" / "plate.c"
+RUST = ROOT / "examples" / "rust" / "panbuckle.rs"
 # What the program says, with status 2, of an input that fracture refuses to read.
 UNREAD = b"plate: the input is no list of at most 4096 points, a line x y for each\n"
 # Good lines, and not too many of them; but 65,537 bytes.
@@ -46,6 +47,7 @@ FUNCTION = re.compile(r'pub extern "C" fn (\w+)\(([^)]*)\) -> (\w+)')
 CONSTANT = re.compile(r"^pub const (\w+): \w+ = (\d+);", re.MULTILINE)
 DEFINED = re.compile(r"^    PANBUCKLE_(\w+) = (\d+)", re.MULTILINE)
 DECLARED = re.compile(r"^((?:PANBUCKLE_ACCESS\(.*\)\n)?)(\w+ panbuckle_\w+\([^)]*\));", re.MULTILINE)
+RUST_DECLARED = re.compile(r"pub fn (panbuckle_\w+\([^)]*\) -> \w+);")
 ACCESS = re.compile(r"PANBUCKLE_ACCESS\((\w+), (\d+), (\d+)\)")
 VERSION = re.compile(r"^#define PANBUCKLE_VERSION (\d+)$", re.MULTILINE)
 NEEDED = re.compile(r"needs nothing but ([\w, ]+)\.")
@@ -83,14 +85,21 @@ def c_parameters(name, kind):
     return [f"{C_TYPES[kind]} {name}"]
 
 
-def exported(source):
-    """The C declarations of the functions that a source exports."""
-    found = []
+def rust_parameters(name, kind):
+    """The parameters in Rust, where it calls C, of one in Rattle."""
+    fixed = FIXED.fullmatch(kind)
+    if fixed:
+        return [f"{name}: *mut {fixed[1]}"]
+    if kind.endswith("[i32]"):
+        return [f"{name}: {'*mut' if 'mut' in kind else '*const'} i32", f"{name}_length: usize"]
+    return [f"{name}: {kind}"]
+
+
+def exported(source, listed_as):
+    """The functions that a source exports: the name, the parameters in another language, and the result's type."""
     for name, parameters, result in FUNCTION.findall(source):
         pairs = [part.strip().split(": ") for part in parameters.split(",") if part.strip()]
-        listed = [c for pair in pairs for c in c_parameters(*pair)]
-        found.append(f"{C_TYPES[result]} {name}({', '.join(listed) or 'void'})")
-    return sorted(found)
+        yield name, ", ".join(text for pair in pairs for text in listed_as(*pair)), result
 
 
 def declarations(header):
@@ -116,7 +125,8 @@ def access_faults(header):
 def header_faults(header):
     """For each function and each number of the header what is wrong with it, or None."""
     source = SOURCE.read_text(encoding="utf-8")
-    ours, theirs = [text for text, _ in declarations(header)], exported(source)
+    ours = [text for text, _ in declarations(header)]
+    theirs = sorted(f"{C_TYPES[result]} {name}({listed or 'void'})" for name, listed, result in exported(source, c_parameters))
     yield None if ours and ours == theirs else f"the header declares {ours}, and the source exports {theirs}"
     yield from access_faults(header)
     constants = dict(pair for file in NUMBERS for pair in CONSTANT.findall(file.read_text(encoding="utf-8")))
@@ -126,6 +136,16 @@ def header_faults(header):
             yield None if defined.get(name) == number else f"{name} is {number}, and in the header {defined.get(name)}"
     versions = {*VERSION.findall(header), dict(CONSTANT.findall(source)).get("VERSION"), *re.findall(r"panbuckle_version_(\d+)", header)}
     yield None if len(versions) == 1 else f"there is not one version but {versions}"
+
+
+def rust_faults(header, rust):
+    """What is wrong with the functions that the Rust example declares, and with the version that it asks for; or None for each."""
+    ours = sorted(" ".join(text.split()).replace("( ", "(").replace(", )", ")") for text in RUST_DECLARED.findall(rust))
+    found = exported(SOURCE.read_text(encoding="utf-8"), rust_parameters)
+    theirs = sorted(f"{name}({listed}) -> {result}" for name, listed, result in found)
+    yield None if ours and ours == theirs else f"Rust declares {ours}, and the source exports {theirs}"
+    versions = {*VERSION.findall(header), *re.findall(r"(?:VERSION: u32 = |panbuckle_version_)(\d+)", rust)}
+    yield None if len(versions) == 1 else f"in Rust there is not one version but {versions}"
 
 
 def said_by(*words):
@@ -263,7 +283,7 @@ def linked_faults(header):
 def main():
     """Checks the face, prints the faults and the counts, and gives the exit status."""
     header = HEADER.read_text(encoding="utf-8")
-    outcomes = [*header_faults(header), *linked_faults(header)]
+    outcomes = [*header_faults(header), *rust_faults(header, RUST.read_text(encoding="utf-8")), *linked_faults(header)]
     faults = [fault for fault in outcomes if fault]
     return report(len(outcomes) - len(faults), faults)
 

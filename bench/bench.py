@@ -12,16 +12,20 @@ import sys
 import tempfile
 from pathlib import Path
 
-from families import FAMILIES, REFUSED, family, refused
+from families import FAMILIES, ORDERS, RECTANGLES, REFUSED, family, rectangles, refused
 
 ROOT = Path(__file__).resolve().parent.parent
 ARCHIVE = ROOT / "target" / "staticlib" / "libpanbuckle_c.a"
 NATIVE = platform.machine() == "x86_64"
 COMPILER = "g++" if NATIVE else "x86_64-linux-gnu-g++"
 PACKAGES = ["g++"] if NATIVE else ["g++-x86-64-linux-gnu"]
+LOADER = "ld-linux-x86-64.so.2"
 POLYGON = Path("/usr/include/boost/polygon/polygon.hpp")
 SIZES = (512, 1024, 2048, 4096)
-RECTANGLES = (1024, 4096, 16384)
+COUNTS = (1024, 4096, 16384)
+# The most stack is used where a sort goes deepest, which takes few rectangles, or where backward's array of keys is filled once or more.
+STACK_SIZES = (64, 4096)
+STACK_COUNTS = (*range(1, 65), 384, 385, 768, 769, 1536, 4096, 16384)
 
 
 def run(*words, **named):
@@ -39,12 +43,15 @@ def ensure_tools():
 
 
 def built(folder):
-    """The program compare.cpp, built with the archive in a folder. Boost's headers serve any compiler, also one that does not look there."""
+    """The program compare.cpp, built with the archive in a folder. Boost's headers serve any compiler, also one that does not look there.
+    It is not static, since Debian's cross libm.a names files that are not there; and its symbols are bound at the start, so that the loader
+    does not bind one on a stack that is measured."""
     program = Path(folder) / "compare"
     headers = Path(folder) / "headers"
     headers.mkdir()
     (headers / "boost").symlink_to(POLYGON.parent.parent)
-    run(COMPILER, "-std=c++17", "-O3", "-static", f"-I{ROOT / 'include'}", f"-I{headers}", ROOT / "bench" / "compare.cpp", ARCHIVE, "-o", program)
+    words = ["-std=c++17", "-O3", "-Wl,-z,now", f"-I{ROOT / 'include'}", f"-I{headers}"]
+    run(COMPILER, *words, ROOT / "bench" / "compare.cpp", ARCHIVE, "-o", program)
     return program
 
 
@@ -59,12 +66,19 @@ def emulator():
     return [] if NATIVE else [kit() / "bin" / "qemu-x86_64"]
 
 
+def with_libraries(program, loader):
+    """The words that run a program that is not static: under the emulator with a loader, and the libraries that stand beside it."""
+    return [program] if NATIVE else [*emulator(), loader, "--library-path", loader.parent, program]
+
+
 def kit_program(name):
-    """The words that run a program of this repository."""
-    program = ROOT / "target" / "bin" / name
-    if NATIVE:
-        return [program]
-    return [*emulator(), kit() / "lib" / "ld-linux-x86-64.so.2", "--library-path", kit() / "lib", program]
+    """The words that run a program of this repository, with the kit's libraries."""
+    return with_libraries(ROOT / "target" / "bin" / name, kit() / "lib" / LOADER)
+
+
+def cross_program(program):
+    """The words that run a program that was built here, with the cross compiler's libraries."""
+    return with_libraries(program, Path(run(COMPILER, f"-print-file-name={LOADER}").strip()).resolve())
 
 
 class Bench:
@@ -72,16 +86,16 @@ class Bench:
 
     def __init__(self, folder, program):
         self.folder = Path(folder)
-        self.command = [*emulator(), program]
+        self.command = cross_program(program)
 
     def rows(self, what, *words):
         """What the program prints, each line in words."""
         return [line.split() for line in run(*self.command, what, *words).splitlines()]
 
-    def file(self, name, points):
-        """A file of points."""
+    def file(self, name, items):
+        """A file of points or rectangles."""
         path = self.folder / f"{name}.txt"
-        path.write_text("".join(f"{x} {y}\n" for x, y in points), encoding="utf-8")
+        path.write_text("".join(" ".join(map(str, item)) + "\n" for item in items), encoding="utf-8")
         return path
 
 
@@ -116,7 +130,7 @@ def show_growth(times, sizes):
 
 def compare_backward(bench):
     """Backward against a sort."""
-    rows = bench.rows("backward", *RECTANGLES)
+    rows = bench.rows("backward", *COUNTS)
     table(["rectangles", "points", "backward, ms", "std::sort, ms", "ratio"], [[count, points, ours, theirs, f"{float(ours) / float(theirs):.2f}"] for _, count, points, ours, theirs in rows])
 
 
@@ -126,13 +140,27 @@ def show_refused(bench):
     table(["refused", "points", "answer", "place", "ms"], [[name.replace("_", " "), *rest] for name, *rest in bench.rows("refused", *files)])
 
 
+def point_files(bench, sizes):
+    """Files of the families of these sizes in every order, and of the refused arrays."""
+    for name in FAMILIES:
+        for n in sizes:
+            points = family(name, n)
+            yield bench.file(f"{name}_{n}", points)
+            yield from (bench.file(f"{name}_{n}_{order}", put(points)) for order, put in ORDERS.items())
+    yield from (bench.file(name, refused(name)) for name in REFUSED)
+
+
+def most_stack(bench, sizes, counts):
+    """The most bytes of stack that a call of each function uses, over points of these sizes and these counts of rectangles."""
+    points = bench.rows("stack", *point_files(bench, sizes))
+    files = [bench.file(f"{name}_{count}", rectangles(name, count)) for name in RECTANGLES for count in counts]
+    columns = {"forward": (points, 2), "step": (points, 3), "backward": (bench.rows("backstack", *files), 2)}
+    return {name: max(int(row[column]) for row in rows) for name, (rows, column) in columns.items()}
+
+
 def show_stack(bench):
-    """The most stack that a call uses, over all families and refused arrays of 4,096 points, and rectangles at random."""
-    files = [bench.file(name, family(name, SIZES[-1])) for name in FAMILIES] + [bench.file(name, refused(name)) for name in REFUSED]
-    rows = bench.rows("stack", *files)
-    most = {"forward": max(int(row[2]) for row in rows), "step": max(int(row[3]) for row in rows)}
-    most["backward"] = max(int(row[2]) for row in bench.rows("backstack", *RECTANGLES))
-    table(["call", "bytes of stack, at most"], most.items())
+    """The most stack that each call uses."""
+    table(["call", "bytes of stack, at most"], most_stack(bench, STACK_SIZES, STACK_COUNTS).items())
 
 
 def show_fracture(bench, name, n):

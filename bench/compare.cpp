@@ -5,7 +5,7 @@
 //   compare step FILE...        one step: all of a step's checks, and the first rectangle
 //   compare backward NUMBER...  so many rectangles at random to their points: backward against a std::sort of their corners
 //   compare stack FILE...       how many bytes of stack forward and a step use on the points of each file
-//   compare backstack NUMBER... and backward on so many rectangles at random
+//   compare backstack FILE...   and backward on the rectangles of each file ("X Y W H" lines)
 //   compare program FILE WORD...  a program, given as words, with the file as its standard input
 //
 // Each line printed has the name, the sizes, and the best time of many, in milliseconds. Two that are compared take turns, so that both
@@ -99,14 +99,26 @@ template <class Work> size_t stack_of(Work work) {
 
 // ---- Inputs
 
-Numbers read_points(const char *file) {
+Numbers read_numbers(const char *file) {
     FILE *in = std::fopen(file, "r");
     if (!in) give_up(std::string(file) + " cannot be read");
-    Numbers points;
+    Numbers numbers;
     int32_t number;
-    while (std::fscanf(in, "%" SCNd32, &number) == 1) points.push_back(number);
+    while (std::fscanf(in, "%" SCNd32, &number) == 1) numbers.push_back(number);
     std::fclose(in);
-    return points;
+    return numbers;
+}
+
+// So many rectangles at random. The last two are the same and cancel, so that there are fewer points than corners, and backward counts them
+// before it writes.
+Numbers random_rects(const char *number) {
+    size_t count = std::strtoul(number, nullptr, 10);
+    std::mt19937 random(1983);
+    std::uniform_int_distribution<int32_t> corner(-1000000, 1000000), side(1, 1000);
+    Numbers rects;
+    for (size_t i = 0; i < count; i++) rects.insert(rects.end(), {corner(random), corner(random), side(random), side(random)});
+    std::copy_n(rects.end() - 8, 4, rects.end() - 4);
+    return rects;
 }
 
 std::string name_of(const char *file) {
@@ -146,7 +158,7 @@ struct Forward {
     Numbers points, work, rects;
     uint64_t result[5];
 
-    explicit Forward(const char *file) : points(read_points(file)), work(points.size() + 1), rects(4) {}
+    explicit Forward(const char *file) : points(read_numbers(file)), work(points.size()) {}
 
     void run(size_t room) { panbuckle_forward(points.data(), points.size(), work.data(), points.size(), rects.data(), room, result); }
 };
@@ -170,7 +182,7 @@ void time_refused(const char *file) {
 }
 
 void time_step(const char *file) {
-    Numbers points = read_points(file), work;
+    Numbers points = read_numbers(file), work;
     int32_t rect[4];
     uint64_t result[3];
     double best = best_of([&] {
@@ -181,24 +193,16 @@ void time_step(const char *file) {
     std::printf("%s %zu %.5f\n", name_of(file).c_str(), points.size() / 2, best);
 }
 
-// So many rectangles at random. The last two are the same and cancel, so that there are fewer points than corners, and backward counts them
-// before it writes.
 struct Backward {
     Numbers rects, points;
     uint64_t result[3];
 
-    explicit Backward(const char *number) {
-        size_t count = std::strtoul(number, nullptr, 10);
-        std::mt19937 random(1983);
-        std::uniform_int_distribution<int32_t> corner(-1000000, 1000000), side(1, 1000);
-        for (size_t i = 0; i < count; i++) rects.insert(rects.end(), {corner(random), corner(random), side(random), side(random)});
-        std::copy_n(rects.end() - 8, 4, rects.end() - 4);
-        points.resize(1);
-        panbuckle_backward(rects.data(), rects.size(), points.data(), 0, result);
+    explicit Backward(const Numbers &lent) : rects(lent) {
+        run(0);
         points.resize(2 * result[PANBUCKLE_PLACE]);
     }
 
-    void run() { panbuckle_backward(rects.data(), rects.size(), points.data(), points.size(), result); }
+    void run(size_t room) { panbuckle_backward(rects.data(), rects.size(), points.data(), room, result); }
 };
 
 void sort_corners(const Numbers &rects, std::vector<std::pair<int32_t, int32_t>> &sorted) {
@@ -209,18 +213,23 @@ void sort_corners(const Numbers &rects, std::vector<std::pair<int32_t, int32_t>>
 }
 
 void compare_backward(const char *number) {
-    Backward ours(number);
+    Backward ours(random_rects(number));
     std::vector<std::pair<int32_t, int32_t>> sorted;
-    auto [our_best, their_best] = best_of([&] { ours.run(); }, [&] { sort_corners(ours.rects, sorted); });
+    auto [our_best, their_best] = best_of([&] { ours.run(ours.points.size()); }, [&] { sort_corners(ours.rects, sorted); });
     if (ours.result[PANBUCKLE_ANSWER] != PANBUCKLE_DONE) give_up("backward refuses");
     std::printf("backward %zu %" PRIu64 " %.5f %.5f\n", ours.rects.size() / 4, ours.result[PANBUCKLE_COUNT], our_best, their_best);
 }
 
+// The most of a call with no room and one with all the room that is needed.
+template <class Call> size_t most_stack(Call &call, Numbers &lent, size_t numbers_each) {
+    size_t none = stack_of([&] { call.run(0); });
+    if (call.result[PANBUCKLE_ANSWER] == PANBUCKLE_ROOM) lent.resize(numbers_each * call.result[PANBUCKLE_PLACE]);
+    return std::max(none, stack_of([&] { call.run(lent.size()); }));
+}
+
 void show_stack(const char *file) {
     Forward ours(file);
-    ours.run(0);
-    if (ours.result[PANBUCKLE_ANSWER] == PANBUCKLE_ROOM) ours.rects.resize(4 * ours.result[PANBUCKLE_PLACE]);
-    size_t forward = stack_of([&] { ours.run(ours.rects.size()); });
+    size_t forward = most_stack(ours, ours.rects, 4);
     int32_t rect[4];
     uint64_t result[3];
     ours.work = ours.points;
@@ -228,9 +237,9 @@ void show_stack(const char *file) {
     std::printf("%s %zu %zu %zu\n", name_of(file).c_str(), ours.points.size() / 2, forward, step);
 }
 
-void show_backward_stack(const char *number) {
-    Backward ours(number);
-    std::printf("backward %s %zu\n", number, stack_of([&] { ours.run(); }));
+void show_backward_stack(const char *file) {
+    Backward ours(read_numbers(file));
+    std::printf("%s %zu %zu\n", name_of(file).c_str(), ours.rects.size() / 4, most_stack(ours, ours.points, 2));
 }
 
 void time_program(const char *file, char **words) {

@@ -1,6 +1,8 @@
-"""The arrays that the comparison runs on: families of points that forward accepts, and arrays of 4,096 points that it refuses.
+"""The arrays that the comparison runs on: families of points that forward accepts, arrays of 4,096 points that it refuses, and families of
+rectangles, for the stack that backward uses on them.
 
-Every array is made from its name and size alone, and its points stand in no order.
+Every array is made from its name and size alone. The points of a family stand in no order; ORDERS has others, in which a sort may go
+deeper.
 """
 
 import random
@@ -177,14 +179,19 @@ def one_point(_):
     return [(0, 0)] * MOST
 
 
-def splits_badly(_):
-    """An order in which the middle of three is, at each split, nearly the least of all, as long as the sort splits."""
-    places, points = list(range(MOST)), [None] * MOST
-    for x in range(MOST):
+def bad_order(count):
+    """Numbers in an order in which the middle of three is, at each split, nearly the least of all, as long as the sort splits."""
+    places, numbers = list(range(count)), [0] * count
+    for number in range(count):
         n = len(places)
         at = sorted({n // 4, n // 2, n - 1 - n // 4})[0] if n > 2 else 0
-        points[places.pop(at)] = (x, x)
-    return points
+        numbers[places.pop(at)] = number
+    return numbers
+
+
+def splits_badly(_):
+    """Points on a line, in a bad order."""
+    return [(x, x) for x in bad_order(MOST)]
 
 
 # The arrays by name, and the refusal of each: REPEATED, ROW or COLUMN.
@@ -202,3 +209,39 @@ REFUSED = {
 def refused(name):
     """An array of 4,096 points that forward refuses."""
     return REFUSED[name][0](random.Random(name))
+
+
+# The orders of a family's points beside its own, by row and by column.
+ORDERS = {
+    "rising": lambda points: sorted(points, key=lambda point: (point[1], point[0])),
+    "falling": lambda points: sorted(points, key=lambda point: (-point[1], -point[0])),
+    "rising_by_column": sorted,
+    "falling_by_column": lambda points: sorted(points, reverse=True),
+}
+
+
+def in_a_row(numbers):
+    """A square for each number, the greater the further up."""
+    return [(3 * number, 3 * number, 2, 2) for number in numbers]
+
+
+def any_rectangle(rng):
+    """A rectangle at random."""
+    return rng.randint(-9999, 9999), rng.randint(-9999, 9999), rng.randint(1, 99), rng.randint(1, 99)
+
+
+# Families of rectangles: each makes a number of them.
+RECTANGLES = {
+    "any": lambda count, rng: [any_rectangle(rng) for _ in range(count)],
+    "equal": lambda count, _: [(0, 0, 1, 1)] * count,
+    "seven_in_turn": lambda count, _: in_a_row(i % 7 for i in range(count)),
+    "rising": lambda count, _: in_a_row(range(count)),
+    "falling": lambda count, _: in_a_row(reversed(range(count))),
+    "up_and_down": lambda count, _: in_a_row(min(i, count - i) for i in range(count)),
+    "split_badly": lambda count, _: in_a_row(bad_order(count)),
+}
+
+
+def rectangles(name, count):
+    """So many rectangles of the family."""
+    return RECTANGLES[name](count, random.Random(f"{name} {count}"))

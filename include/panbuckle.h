@@ -1,12 +1,13 @@
 /* Panbuckle from C: the corner points of right-angled shapes become disjoint rectangles, and back.
  *
  * Link with libpanbuckle_c.a, which `rt staticlib panbuckle_c` proves and writes to target/staticlib. It is for x86-64 and the System V
- * calling convention, and needs nothing but memset, memcpy and memmove. The functions keep no state, allocate nothing, call nothing back
- * and end for every input, so that any number of threads may call them at once, each with arrays of its own.
+ * calling convention, and needs nothing but memset. The functions keep no state, allocate nothing, call nothing back and end for every
+ * input, so that any number of threads may call them at once, each with arrays of its own. They use at most 13 KiB of stack forward and in
+ * a step, and 14.5 KiB backward, which is measured and not proved.
  *
  * What each function returns and writes is proved, for every content and length of the arrays: no caller has to check anything first.
- * What C cannot say and the caller owes is this, for each pointer: it is not NULL, also where the length is 0; it points to as many
- * numbers as the length says (or the brackets do); and no array that is written overlaps another.
+ * What C cannot say and the caller owes is this, for each pointer: it points to as many numbers as its length says (it may be NULL where
+ * that is 0) or as the brackets say (it is never NULL); and no array that is written overlaps another. If one does, the outcome is undefined.
  *
  * A point is two numbers, x and y, each from -1000000000 to 1000000000. A rectangle is four: X and Y of the lower left corner, W and H.
  * Points, rectangles and places are counted from 0; lengths are counted in numbers, not in points, rectangles or bytes. */
@@ -16,9 +17,44 @@
 #include <stddef.h>
 #include <stdint.h>
 
+/* What the compiler is told, where it understands it. In C, gcc then warns (-O2 -Wall) of an array that is passed twice, of one that is seen to
+ * be shorter than its length or its brackets say, and of a NULL that is not allowed. */
+#if !defined(__cplusplus) && defined(__STDC_VERSION__) && __STDC_VERSION__ >= 199901L
+#define PANBUCKLE_LENT restrict
+#define PANBUCKLE_FIXED restrict static
+#else
+#define PANBUCKLE_LENT
+#define PANBUCKLE_FIXED
+#endif
+#ifdef __has_attribute
+#define PANBUCKLE_KNOWN(attribute) __has_attribute(attribute)
+#else
+#define PANBUCKLE_KNOWN(attribute) 0
+#endif
+#if PANBUCKLE_KNOWN(__access__)
+#define PANBUCKLE_ACCESS(mode, pointer, length) __attribute__((__access__(mode, pointer, length)))
+#else
+#define PANBUCKLE_ACCESS(mode, pointer, length)
+#endif
+#if PANBUCKLE_KNOWN(__retain__)
+#define PANBUCKLE_KEPT __attribute__((__used__, __retain__))
+#elif PANBUCKLE_KNOWN(__used__)
+#define PANBUCKLE_KEPT __attribute__((__used__))
+#else
+#define PANBUCKLE_KEPT
+#endif
+
 #ifdef __cplusplus
 extern "C" {
 #endif
+
+/* The version. It rises by one when a program that was built with the older header would go wrong: when a signature, the meaning of a number
+ * or the order of an array's numbers changes; not when a function or a refusal is added. The archive's function has it in its name, and
+ * every program that includes this header refers to that name, so that it does not link with an archive of another version. */
+#define PANBUCKLE_VERSION 1
+#define panbuckle_version panbuckle_version_1
+uint32_t panbuckle_version_1(void);
+PANBUCKLE_KEPT static uint32_t (*const panbuckle_linked)(void) = panbuckle_version_1;
 
 /* The answers. On any answer but PANBUCKLE_DONE nothing is written to the list or to the points, and the place says where:
  * the first point or rectangle at fault; with PANBUCKLE_ROOM how many rectangles or points there would be; otherwise 0. */
@@ -57,36 +93,44 @@ enum {
  * work     scratch space, points_length numbers at least. With PANBUCKLE_DONE and PANBUCKLE_ROOM its first points_length numbers are 0
  *          afterwards; otherwise it is as it was. What is past them is never touched.
  * rects    room for the list, four numbers to a rectangle. With PANBUCKLE_DONE it begins with X, Y, W, H of each; what is past them,
- *          and all of it on any refusal, is as it was. n points on r rows have at most n / 2 * (r - 1) rectangles. To learn how many
- *          there are, lend a short array: PANBUCKLE_ROOM's place is the number needed.
+ *          and all of it on any refusal, is as it was. To learn how many rectangles there are, lend no room, NULL and 0: PANBUCKLE_ROOM's
+ *          place is their number; then lend four numbers for each. n points on r rows have at most n / 2 * (r - 1) of them; the most
+ *          that were seen of 4096 points are 1048576.
  * result   answer, place, count, area, edge: always all five are written.
  *
  * Checked in this order, each over the whole input: LENGTH, MANY, WORK, RANGE, REPEATED, ROW, COLUMN, ROOM. */
-uint32_t panbuckle_forward(const int32_t *points, size_t points_length, int32_t *work, size_t work_length, int32_t *rects,
-                           size_t rects_length, uint64_t result[5]);
+PANBUCKLE_ACCESS(__read_only__, 1, 2) PANBUCKLE_ACCESS(__write_only__, 3, 4) PANBUCKLE_ACCESS(__write_only__, 5, 6)
+uint32_t panbuckle_forward(const int32_t *PANBUCKLE_LENT points, size_t points_length, int32_t *PANBUCKLE_LENT work, size_t work_length,
+                           int32_t *PANBUCKLE_LENT rects, size_t rects_length, uint64_t result[PANBUCKLE_FIXED 5]);
 
 /* One step of forward: takes the first rectangle of the points that stand in a working array, and leaves there the points of the rest.
  * Forward is this, from the points copied in, until PANBUCKLE_DRAINED.
  *
  * work     the points at its start, two numbers to each. With PANBUCKLE_DONE it begins with the points that are left, and up to twice the
- *          count given zeros follow them; what is past that, and all of it on any refusal, is as it was.
+ *          count given zeros follow them; what is past that, and all of it on any refusal, is as it was. Points keep their places: into
+ *          the place of one that goes moves the last, and one that comes stands after the last.
  * count    how many points there are; for the next step pass result[PANBUCKLE_COUNT].
  * rect     with PANBUCKLE_DONE X, Y, W, H of the rectangle; on any refusal as it was.
  * result   answer, place, count: always all three are written.
  *
  * Checked in this order: MANY, WORK, DRAINED, RANGE, REPEATED, ROW, COLUMN. */
-uint32_t panbuckle_step(int32_t *work, size_t work_length, size_t count, int32_t rect[4], uint64_t result[3]);
+PANBUCKLE_ACCESS(__read_write__, 1, 2)
+uint32_t panbuckle_step(int32_t *PANBUCKLE_LENT work, size_t work_length, size_t count, int32_t rect[PANBUCKLE_FIXED 4],
+                        uint64_t result[PANBUCKLE_FIXED 3]);
 
 /* Backward: the points that are a corner of an odd number of the rectangles, once each, in order of y, then x. The rectangles may overlap
- * or repeat. Backward of forward's list gives forward's points, in this order.
+ * or repeat. Backward of forward's list gives forward's points, in this order, if the list has at most PANBUCKLE_MOST_RECTS rectangles. Of
+ * a longer one, which 516 points can have, the answer is PANBUCKLE_MANY.
  *
  * rects    X, Y, W, H, rectangle after rectangle: only read.
  * points   room for the points, two numbers to each. With PANBUCKLE_DONE it begins with x and y of each; what is past them, and all of it
- *          on any refusal, is as it was. There are at most four points to a rectangle; PANBUCKLE_ROOM's place is the number needed.
+ *          on any refusal, is as it was. There are at most four points to a rectangle; PANBUCKLE_ROOM's place is the number of points.
  * result   answer, place, count: always all three are written.
  *
  * Checked in this order: LENGTH, MANY, FLAT, RANGE, ROOM. */
-uint32_t panbuckle_backward(const int32_t *rects, size_t rects_length, int32_t *points, size_t points_length, uint64_t result[3]);
+PANBUCKLE_ACCESS(__read_only__, 1, 2) PANBUCKLE_ACCESS(__write_only__, 3, 4)
+uint32_t panbuckle_backward(const int32_t *PANBUCKLE_LENT rects, size_t rects_length, int32_t *PANBUCKLE_LENT points, size_t points_length,
+                            uint64_t result[PANBUCKLE_FIXED 3]);
 
 #ifdef __cplusplus
 }

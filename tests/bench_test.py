@@ -1,10 +1,12 @@
-"""Checks that the comparison of bench/ builds and runs: on small arrays of every family Boost.Polygon covers the same area, and each array that
-is to be refused is refused for its reason. How long anything takes is not judged.
+"""Checks that the comparison of bench/ builds and runs: on small arrays of every family Boost.Polygon covers the same area, each array that
+is to be refused is refused for its reason, and the most stack that is measured is what the header says, rounded up. How long anything takes
+is not judged.
 
 Each fault is printed on a line. The last line is 'N passed, M failed', and the exit status is 0 exactly when M is 0.
 """
 
 import os
+import re
 import subprocess
 import sys
 import tempfile
@@ -15,10 +17,15 @@ from counting import report
 ROOT = Path(__file__).resolve().parent.parent
 sys.path.insert(0, str(ROOT / "bench"))
 
-from bench import Bench, built, ensure_tools  # noqa: E402
+from bench import Bench, built, ensure_tools, most_stack, run  # noqa: E402
 from families import FAMILIES, MOST, REFUSED, family, refused  # noqa: E402
 
 FEW = 64
+# Few rectangles, but as many as take the sort to its depth.
+FEW_RECTANGLES = (1, 40)
+HEADER = ROOT / "include" / "panbuckle.h"
+STACK = re.compile(r"at most ([\d.]+) KiB of stack forward and in\s+\*?\s*a step, and ([\d.]+) KiB backward")
+KIB = 1024
 
 
 def outcomes(bench):
@@ -32,18 +39,28 @@ def outcomes(bench):
         yield None if (int(count), int(answer)) == (MOST, number) else f"{name}: answer {answer}, not {number}, to {count} points"
     ((_, count, points, *_),) = bench.rows("backward", "16")
     yield None if (count, points) == ("16", "56") else f"backward: {points} points of {count} rectangles, and not 56"
-    ((_, _, forward, step),) = bench.rows("stack", bench.file("rects", family("rects", FEW)))
-    yield None if 0 < int(forward) < 16384 and 0 < int(step) < 16384 else f"stack: {forward} and {step} bytes"
+    yield from stack_faults(most_stack(bench, (FEW,), FEW_RECTANGLES))
+
+
+def stack_faults(measured):
+    """For each function what is wrong with what the header says of its stack, or None: it is what was measured and less than a KiB more."""
+    forward, backward = STACK.search(HEADER.read_text(encoding="utf-8")).groups()
+    for name, said in {"forward": forward, "step": forward, "backward": backward}.items():
+        over = float(said) * KIB - measured[name]
+        yield None if 0 <= over < KIB else f"stack: {name} uses {measured[name]} bytes, and the header says {said} KiB"
 
 
 def main():
     """Builds and runs the comparison, prints the faults and the counts, and gives the exit status."""
     os.environ["COMPARE_FOR"] = "0"
-    ensure_tools()
-    if subprocess.run(["rt", "staticlib", "panbuckle_c"], cwd=ROOT, check=False, stdout=subprocess.DEVNULL).returncode != 0:
-        return report(0, ["the archive could not be made"])
-    with tempfile.TemporaryDirectory() as folder:
-        found = list(outcomes(Bench(folder, built(folder))))
+    found = []
+    try:
+        ensure_tools()
+        run("rt", "staticlib", "panbuckle_c", cwd=ROOT)
+        with tempfile.TemporaryDirectory() as folder:
+            found += outcomes(Bench(folder, built(folder)))
+    except subprocess.CalledProcessError as failure:
+        found.append(f"a command ended badly: {failure}")
     faults = [fault for fault in found if fault]
     return report(len(found) - len(faults), faults)
 

@@ -1,32 +1,49 @@
-/* Reads points from standard input, "x y" on each line, and prints their rectangles as `fracture` does. It uses the whole C face:
- * forward makes the list, a step after the other makes it again, and backward of the list gives the points back. */
+/* Reads points from standard input, "x y" on each line, and prints their rectangles as `fracture` does; what `fracture` cannot read, it does not
+ * read either. It uses the whole C face: forward makes the list, a step after the other makes it again, and backward of the list gives the
+ * points back. */
 #include "panbuckle.h"
 
 #include <inttypes.h>
 #include <stdio.h>
 #include <string.h>
 
-enum { MOST_RECTS = 3200 };
+enum { MOST_RECTS = 3200, MOST_BYTES = 65536, MOST_DIGITS = 10 };
 
 static int32_t points[2 * PANBUCKLE_MOST_POINTS];
 static int32_t work[2 * PANBUCKLE_MOST_POINTS];
 static int32_t list[4 * MOST_RECTS];
 
-/* How many points there are, or -1 if what is read is no list of at most 4096 points. */
+/* Reads a number, an optional minus and one to ten digits that fit 32 bits, and the byte that must come after it. Gives what follows, or NULL. */
+static const char *read_number(const char *at, char after, int32_t *number)
+{
+    int64_t value = 0, sign = *at == '-' ? -1 : 1;
+    const char *digits = at += *at == '-';
+    while (*at >= '0' && *at <= '9' && at - digits < MOST_DIGITS)
+        value = 10 * value + (*at++ - '0');
+    value *= sign;
+    if (at == digits || *at != after || value < INT32_MIN || value > INT32_MAX)
+        return NULL;
+    *number = (int32_t)value;
+    return at + 1;
+}
+
+/* How many points there are, or -1 if what is read is no list of at most 4096 points. The text ends with a zero, at which no number goes on. */
 static int read_points(void)
 {
+    static char text[MOST_BYTES + 2];
+    size_t length = fread(text, 1, MOST_BYTES + 1, stdin);
     int n = 0;
-    int32_t x, y;
-    for (;;) {
-        int got = scanf("%" SCNd32 "%" SCNd32, &x, &y);
-        if (got == EOF)
-            return n;
-        if (got != 2 || n == PANBUCKLE_MOST_POINTS)
+    if (length > MOST_BYTES)
+        return -1;
+    for (const char *at = text; at < text + length; n++) {
+        if (n == PANBUCKLE_MOST_POINTS)
             return -1;
-        points[2 * n] = x;
-        points[2 * n + 1] = y;
-        n++;
+        at = read_number(at, ' ', &points[2 * n]);
+        at = at ? read_number(at, '\n', &points[2 * n + 1]) : NULL;
+        if (!at)
+            return -1;
     }
+    return n;
 }
 
 /* Whether steps, from the points on until none is left, give the list's rectangles one after another. */
@@ -68,7 +85,7 @@ int main(void)
     uint64_t result[5];
     int n = read_points();
     if (n < 0) {
-        fputs("plate: the input is not a list of at most 4096 points\n", stderr);
+        fputs("plate: the input is no list of at most 4096 points, a line x y for each\n", stderr);
         return 2;
     }
     if (panbuckle_forward(points, 2 * (size_t)n, work, 2 * (size_t)n, list, 4 * MOST_RECTS, result) != PANBUCKLE_DONE) {

@@ -2,6 +2,7 @@
 
 mod face {
     extern "C" {
+        pub fn panbuckle_version_1() -> u32;
         pub fn panbuckle_forward(
             points: *const i32,
             points_length: usize,
@@ -14,6 +15,16 @@ mod face {
         pub fn panbuckle_step(work: *mut i32, work_length: usize, count: usize, rect: *mut i32, result: *mut u64) -> u32;
         pub fn panbuckle_backward(rects: *const i32, rects_length: usize, points: *mut i32, points_length: usize, result: *mut u64) -> u32;
     }
+}
+
+/// The version of the face that is declared above.
+const VERSION: u32 = 1;
+
+/// The version of the archive, which has it in the function's name too. Every call below asks for it, so that a program with declarations of
+/// another version does not link.
+pub fn version() -> u32 {
+    // SAFETY: it takes nothing.
+    unsafe { face::panbuckle_version_1() }
 }
 
 /// A refusal: its number and its place, as `include/panbuckle.h` says them.
@@ -33,6 +44,7 @@ pub struct Sums {
 
 /// The rectangles of the points, written to the start of `rects`.
 pub fn forward(points: &[i32], work: &mut [i32], rects: &mut [i32]) -> Result<Sums, Refused> {
+    assert_eq!(version(), VERSION);
     let mut result = [0; 5];
     // SAFETY: each pointer is that of a slice, with the slice's length, and Rust lets no slice that is lent to be written overlap another.
     let number = unsafe {
@@ -56,6 +68,7 @@ pub fn forward(points: &[i32], work: &mut [i32], rects: &mut [i32]) -> Result<Su
 
 /// The first rectangle of the `count` points at the start of `work`, and how many points are left there.
 pub fn step(work: &mut [i32], count: usize) -> Result<([i32; 4], usize), Refused> {
+    assert_eq!(version(), VERSION);
     let (mut rect, mut result) = ([0; 4], [0; 3]);
     // SAFETY: as above; the two arrays have the sizes that the header names.
     let number = unsafe { face::panbuckle_step(work.as_mut_ptr(), work.len(), count, rect.as_mut_ptr(), result.as_mut_ptr()) };
@@ -69,6 +82,7 @@ pub fn step(work: &mut [i32], count: usize) -> Result<([i32; 4], usize), Refused
 
 /// How many points are a corner of an odd number of the rectangles; they are written to the start of `points`.
 pub fn backward(rects: &[i32], points: &mut [i32]) -> Result<usize, Refused> {
+    assert_eq!(version(), VERSION);
     let mut result = [0; 3];
     // SAFETY: as above.
     let number = unsafe { face::panbuckle_backward(rects.as_ptr(), rects.len(), points.as_mut_ptr(), points.len(), result.as_mut_ptr()) };

@@ -55,3 +55,9 @@ pub record StepCalled (work : List ℤ) (n : ℕ) (rect : List ℤ) (r : ℕ) (w
   pub working : work-after ≡ stepWork work n
   pub rectangle : rect-after ≡ rectNumbers (stepAnswer work n) rect
   pub result : result-after ≡ stepNumbers (stepAnswer work n)
+
+-- ---- The version
+
+-- what panbuckle_version_1 returns
+abbrev pub version : ℕ
+version = 1

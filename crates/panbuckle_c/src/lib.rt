@@ -1,13 +1,16 @@
-// The C face of the library: the three entry points on plain numbers and arrays, declared for C in include/panbuckle.h.
+// The C face of the library: the three entry points on plain numbers and arrays, and the face's version, declared for C in include/panbuckle.h.
 // An array that is lent passes as a pointer and a length; one of a fixed size passes as a pointer.
 ghost use mathlib.Core.Path.{_≡_};
 ghost use mathlib.Core.List.{[], _∷_};
-ghost use Rattle.panbuckle_c.specs.Face.{forwardNumbers, backwardNumbers, ForwardCalled, BackwardCalled, StepCalled};
+ghost use Rattle.panbuckle_c.specs.Face.{forwardNumbers, backwardNumbers, ForwardCalled, BackwardCalled, StepCalled, version};
 use panbuckle::BackwardAnswer;
 use panbuckle::DONE;
 use panbuckle::ForwardAnswer;
 use panbuckle::Rect;
 use panbuckle::StepAnswer;
+
+// The face's version, which rises by one when a program that was built with an older header would go wrong.
+pub const VERSION: u32 = 1;
 
 // ---- The numbers of an answer
 
@@ -95,4 +98,12 @@ pub extern "C" fn panbuckle_backward(
     let r = panbuckle::backward(rects, points);
     put_backward(result, r);
     r.answer
+}
+
+// The version. The name has it too, so that a program that was built with another version's header does not link.
+#[no_mangle]
+pub extern "C" fn panbuckle_version_1() -> u32
+    ensures { λ r. ⌜ r ≡ version ⌝ }
+{
+    VERSION
 }

@@ -6,7 +6,7 @@ help:
 	@echo 'make test      run the test gate, .ci/run'
 	@echo 'make archive   prove the C face and write target/staticlib/libpanbuckle_c.a'
 	@echo 'make bench     time the library beside Boost.Polygon and std::sort, some minutes; no part of the gate'
-	@echo 'make edits     have the prover refuse the edits of tests/edits/ that changed, or of the crates named after it; half a minute or more each'
+	@echo 'make edits     try the edits of tests/edits/ that have no fresh record, of all crates or of those named after it: half a minute each'
 	@echo 'make mutants   have the prover check small edits of the code; it takes an hour or so, and is no part of the gate'
 
 test:

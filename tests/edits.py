@@ -118,8 +118,7 @@ def kept_edits(root):
 def hashes_today(root):
     """For each of these edits the hash of its crate and its own."""
     edits = kept_edits(root)
-    crates = {edit.parent.name: None for edit in edits.values()}
-    crates = {crate: crate_hash(root / "crates" / crate) for crate in crates}
+    crates = {crate: crate_hash(root / "crates" / crate) for crate in {edit.parent.name for edit in edits.values()}}
     return {name: [crates[edit.parent.name], hash_of([edit], edit.parent)] for name, edit in edits.items()}
 
 
@@ -146,7 +145,7 @@ def stale(lines, today):
 
 
 def record_faults(root):
-    """The number of the edits in tests/edits/, and what is wrong with each that has a fault, and with the record."""
+    """The number of the edits in tests/edits/; what is wrong with each that has a fault; and what is wrong with lines of no edit."""
     today, record = hashes_today(root), [words for words in read_record(root) if words]
     faults = {}
     for name, hashes in today.items():

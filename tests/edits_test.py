@@ -1,6 +1,8 @@
 """Tests tests/edits.py and tests/try_edits.py on small made-up trees: an edit in good order in each place, and one fault at a time.
 
-The prover is a stand-in that leaves the log it is told to. The last line is 'N passed, M failed', and the exit status is 0 exactly when M is 0.
+The prover is a stand-in that leaves the log it is told to.
+
+The last line is 'N passed, M failed', and the exit status is 0 exactly when M is 0.
 """
 
 import os

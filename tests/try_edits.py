@@ -59,7 +59,7 @@ def try_crate(scratch, crate, edits):
 
 
 def keep(root, before, tried, faults):
-    """Writes the record anew: of edits that were tried those refused at their facts, with the hashes before that; the others as they were."""
+    """Writes the record anew: of the edits that were tried those refused at their facts, with their hashes; the others as they were."""
     lines = {words[0]: words[1:] for words in read_record(root) if words and words[0] in before and words[0] not in tried}
     write_record(root, {**lines, **{name: before[name] for name in tried if name not in faults}})
 

@@ -218,7 +218,7 @@ class Trial(Tree):
 
     def test_fresh_is_not_tried_again(self):
         before = self.record()
-        said = "1 of 1 edits have a fresh record and are not tried again; with --all they are"
+        said = "1 of 1 edits have a fresh record and are not tried again: tests/try_edits.py --all would"
         self.assertEqual(self.trial("two"), (0, [said, "0 passed, 0 failed"]))
         self.assertEqual((self.calls(), self.record()), ([], before))
 

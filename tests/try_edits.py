@@ -33,7 +33,7 @@ def chosen(root, crates, every):
     edits = {name: edit for name, edit in kept_edits(root).items() if not crates or edit.parent.name in crates}
     fresh = [] if every else [name for name in fresh_lines(root) if name in edits]
     if fresh:
-        print(f"{len(fresh)} of {len(edits)} edits have a fresh record and are not tried again; with --all they are", flush=True)
+        print(f"{len(fresh)} of {len(edits)} edits have a fresh record and are not tried again: tests/try_edits.py --all would", flush=True)
     return {name: edit for name, edit in edits.items() if name not in fresh}
 
 

@@ -1,11 +1,12 @@
 .DEFAULT_GOAL := help
-.PHONY: help test archive bench mutants
+.PHONY: help test archive bench mutants edits
 
 help:
 	@echo 'make help      print the targets'
 	@echo 'make test      run the test gate, .ci/run'
 	@echo 'make archive   prove the C face and write target/staticlib/libpanbuckle_c.a'
 	@echo 'make bench     time the library beside Boost.Polygon and std::sort, some minutes; no part of the gate'
+	@echo 'make edits     try the edits of tests/edits/ that have no fresh record, of all crates or of those named after it: half a minute each'
 	@echo 'make mutants   have the prover check small edits of the code; it takes an hour or so, and is no part of the gate'
 
 test:
@@ -19,3 +20,13 @@ bench:
 
 mutants:
 	@tests/mutants
+
+# The words after `edits` are its crates, and do nothing as goals.
+ifeq ($(firstword $(MAKECMDGOALS)),edits)
+named := $(filter-out edits,$(MAKECMDGOALS))
+.PHONY: $(named)
+$(named): ; @:
+endif
+
+edits:
+	@python3 tests/try_edits.py $(named)

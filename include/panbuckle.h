@@ -17,8 +17,8 @@
 #include <stddef.h>
 #include <stdint.h>
 
-/* What the compiler is told, where it understands it. In C, gcc then warns (-O2 -Wall) of an array that is passed twice, of one that is seen to
- * be shorter than its length or its brackets say, and of a NULL that is not allowed. */
+/* What the compiler is told, where it understands it. In C, gcc then warns (-O2 -Wall) of an array that is passed twice, of one that is seen
+ * to be shorter than its length or its brackets say, and of a NULL that is not allowed. */
 #if !defined(__cplusplus) && defined(__STDC_VERSION__) && __STDC_VERSION__ >= 199901L
 #define PANBUCKLE_LENT restrict
 #define PANBUCKLE_FIXED restrict static
@@ -50,7 +50,8 @@ extern "C" {
 
 /* The version. It rises by one when a program that was built with the older header would go wrong: when a signature, the meaning of a number
  * or the order of an array's numbers changes; not when a function or a refusal is added. The archive's function has it in its name, and
- * every program that includes this header refers to that name, so that it does not link with an archive of another version. */
+ * every program that includes this header refers to that name, so that it does not link with an archive of another version. (A compiler that
+ * does not know the attribute retain, as gcc before 11, cannot keep a linker that drops unused sections from dropping this reference.) */
 #define PANBUCKLE_VERSION 1
 #define panbuckle_version panbuckle_version_1
 uint32_t panbuckle_version_1(void);

@@ -1,4 +1,4 @@
-"""Builds Panbuckle's C face and the program compare.cpp, runs them on the families, and prints the tables of README.md.
+"""Builds Panbuckle's C face and the program compare.cpp, runs them on the families, and prints the figures of docs/SPEED.md.
 
 Both sides are built for x86-64 and run the same way: natively, or both under the kit's emulator on another processor, where only the
 ratios say something. Debian's packages that are wanted and not there are installed.

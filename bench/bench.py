@@ -5,7 +5,6 @@ ratios say something. Debian's packages that are wanted and not there are instal
 """
 
 import os
-import platform
 import shutil
 import subprocess
 import sys
@@ -14,9 +13,10 @@ from pathlib import Path
 
 from families import FAMILIES, ORDERS, RECTANGLES, REFUSED, family, rectangles, refused
 
-ROOT = Path(__file__).resolve().parent.parent
-ARCHIVE = ROOT / "target" / "staticlib" / "libpanbuckle_c.a"
-NATIVE = platform.machine() == "x86_64"
+sys.path.append(str(Path(__file__).resolve().parent.parent / "tests"))
+
+from machine import ARCHIVE, NATIVE, ROOT, emulator, kit  # noqa: E402
+
 COMPILER = "g++" if NATIVE else "x86_64-linux-gnu-g++"
 PACKAGES = ["g++"] if NATIVE else ["g++-x86-64-linux-gnu"]
 LOADER = "ld-linux-x86-64.so.2"
@@ -53,17 +53,6 @@ def built(folder):
     words = ["-std=c++17", "-O3", "-Wl,-z,now", f"-I{ROOT / 'include'}", f"-I{headers}"]
     run(COMPILER, *words, ROOT / "bench" / "compare.cpp", ARCHIVE, "-o", program)
     return program
-
-
-def kit():
-    """The kit's folder for this processor."""
-    guide = run("rt", "doc").strip()
-    return Path(guide).parent.parent / "on" / platform.machine() / "toolchain"
-
-
-def emulator():
-    """The words that come before an x86-64 program to run it here."""
-    return [] if NATIVE else [kit() / "bin" / "qemu-x86_64"]
 
 
 def with_libraries(program, loader):

@@ -9,7 +9,6 @@ Each fault is printed on a line. The last line is 'N passed, M failed', and the 
 """
 
 import os
-import platform
 import re
 import subprocess
 import sys
@@ -17,14 +16,12 @@ import tempfile
 from pathlib import Path
 
 from counting import report
+from machine import ARCHIVE, NATIVE, ROOT, emulator
 from pairs import FOLDERS, input_of
 
-ROOT = Path(__file__).resolve().parent.parent
 HEADER = ROOT / "include" / "panbuckle.h"
 SOURCE = ROOT / "crates" / "panbuckle_c" / "src" / "lib.rt"
 NUMBERS = [ROOT / "crates" / name / "src" / "lib.rt" for name in ("rule", "panbuckle", "outline")]
-ARCHIVE = ROOT / "target" / "staticlib" / "libpanbuckle_c.a"
-NATIVE = platform.machine() == "x86_64"
 COMPILER = "gcc" if NATIVE else "x86_64-linux-gnu-gcc"
 WORDS = ["-std=c11", "-O2", "-Wall", "-Wextra", "-Wpedantic", "-Werror", "-static"]
 # A linker that is told so drops what no call leads to.
@@ -199,14 +196,6 @@ def version_faults(folder, header):
             undefined = re.findall(r"undefined reference to `(\w+)'", said)
             ends_well = (status == 0) == (wanted == [])
             yield None if undefined == wanted and ends_well else f"linked with {more} it lacks {undefined}, and not {wanted}: {said}"
-
-
-def emulator():
-    """The words that come before an x86-64 program to run it here."""
-    if NATIVE:
-        return []
-    guide = subprocess.run(["rt", "doc"], capture_output=True, text=True, check=True).stdout.strip()
-    return [str(Path(guide).parent.parent / "on" / platform.machine() / "toolchain" / "bin" / "qemu-x86_64")]
 
 
 def archived():

@@ -36,7 +36,8 @@ class Outcome:
 def outcome_of(script):
     """Runs a script."""
     began = time.monotonic()
-    done = subprocess.run([sys.executable, script], stdin=subprocess.DEVNULL, stdout=subprocess.PIPE, stderr=subprocess.STDOUT, text=True, check=False)
+    ends = {"stdin": subprocess.DEVNULL, "stdout": subprocess.PIPE, "stderr": subprocess.STDOUT}
+    done = subprocess.run([sys.executable, script], **ends, text=True, check=False)
     return Outcome(script, done.stdout, done.returncode, round(time.monotonic() - began))
 
 

@@ -16,10 +16,9 @@ from pathlib import Path
 
 from counting import report
 from edits import KEPT, ROOT, fault_of, hashes_today, kept_edits, log_of, read_record, write_record
+from scratch import copy_tree
 
 SCRATCH = "target/edits"
-# Of what the prover leaves below target/, that by which it knows that a crate is proved.
-PROVED = ("rlib", "stamp")
 
 
 def fresh_lines(root):
@@ -35,15 +34,6 @@ def chosen(root, crates, every):
     if fresh:
         print(f"{len(fresh)} of {len(edits)} edits have a fresh record and are not tried again: tests/try_edits.py --all would", flush=True)
     return {name: edit for name, edit in edits.items() if name not in fresh}
-
-
-def make_scratch(root, scratch):
-    """Copies what the prover reads, without any edit, and what is proved already."""
-    shutil.rmtree(scratch, ignore_errors=True)
-    shutil.copytree(root / "crates", scratch / "crates", ignore=shutil.ignore_patterns("must-fail"))
-    shutil.copy(root / "crates.txt", scratch)
-    for part in PROVED:
-        shutil.copytree(root / "target" / part, scratch / "target" / part)
 
 
 def try_crate(scratch, crate, edits):
@@ -69,7 +59,8 @@ def try_all(root, edits):
     crates = sorted({edit.parent.name for edit in edits.values()})
     if subprocess.run(["rt", "check", *crates], cwd=root, stdin=subprocess.DEVNULL, check=False).returncode != 0:
         return {crate: "it is not proved as it is, or what it names is not" for crate in crates}
-    make_scratch(root, root / SCRATCH)
+    shutil.rmtree(root / SCRATCH, ignore_errors=True)
+    copy_tree(root, root / SCRATCH)
     before, faults = hashes_today(root), {}
     for crate in crates:
         tried = {name: edit for name, edit in edits.items() if edit.parent.name == crate}

@@ -19,11 +19,12 @@ from pathlib import Path
 HERE = Path(__file__).resolve().parent
 sys.path.insert(0, str(HERE.parent))
 
-from c_face import ARCHIVE, ROOT, archived, built, emulator
+from c_face import archived, built
 from document import NAMES
 from edges import length_groups, pair_groups, range_groups, room_groups, step_groups, stop_groups
 from families import grid_groups, large_groups, small_groups
 from functions import FUNCTIONS, NUMBER, READ
+from machine import ARCHIVE, ROOT, emulator
 from plates import plate_groups
 
 GENERATORS = (

@@ -8,7 +8,8 @@ use mathlib.Core.List.{List}
 use lib.IntN.{ℤ}
 use Rattle.plane.specs.declared.Point.{Point}
 use Rattle.plane.specs.Words.{pointsOf}
-use Rattle.rule.specs.Table.{Check, numberOf, pointChecks, Verdict, accepted, refused, verdict, FirstGiven, Accepted}
+use Rattle.rule.specs.Checks.{Check, rowNumber, Verdict, accepted, refused, verdict, FirstGiven}
+use Rattle.rule.specs.Rows.{pointChecks, Accepted}
 use Rattle.rule.proofs.Verdicts.{Numbers, numberIn, placeIn, answer-refuses, answer-accepts}
 use Rattle.rule.proofs.Refusals.{accepted-points}
 use Rattle.checks.specs.declared.Screen.{Screen}
@@ -25,7 +26,7 @@ screen-refused-exactly-when checks d k p = let s = screen-says (verdict checks) 
 
 -- every check of the points has a refusal's number
 point-numbers : (ps : List Point) → Numbers (λ k. 1 ≤ k) (pointChecks ps)
-unfolding pointChecks numberOf
+unfolding pointChecks rowNumber
 point-numbers ps = omega arith
 
 -- check_points answers 0 exactly when the points are in range, none twice, with every row and every column even

@@ -4,7 +4,8 @@ use Prim.Native.Nat.{ℕ}
 use mathlib.Core.List.{List}
 use lib.IntN.{ℤ}
 use Rattle.plane.specs.Words.{pointsOf}
-use Rattle.rule.specs.Table.{pointChecks, verdict}
+use Rattle.rule.specs.Rows.{pointChecks}
+use Rattle.rule.specs.Checks.{verdict}
 use Rattle.checks.specs.declared.Screen.{Screen}
 use Rattle.checks.specs.Screens.{screenOf, orderChecks, orderLeft}
 

@@ -5,7 +5,8 @@ use mathlib.Core.List.{List}
 use lib.ListN.{length}
 use borrow.Author.Tests.{lt-ltb, le-ltb}
 use Rattle.plane.specs.declared.Point.{Point}
-use Rattle.rule.specs.Table.{pointChecks, Verdict, accepted, refused, verdict}
+use Rattle.rule.specs.Rows.{pointChecks}
+use Rattle.rule.specs.Checks.{Verdict, accepted, refused, verdict}
 use Rattle.rule.proofs.Verdicts.{verdict-whole}
 use Rattle.checks.specs.declared.Screen.the-variants.{Clear, Refused}
 use Rattle.checks.specs.Screens.{screenOf, orderChecks}

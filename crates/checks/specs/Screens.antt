@@ -6,7 +6,8 @@ use lib.ListN.{length, drop, replicate}
 use Rattle.plane.specs.declared.Point.{Point}
 use Rattle.plane.specs.Words.{inOrder}
 use Rattle.rule.specs.Rule.{placeOf}
-use Rattle.rule.specs.Table.{Check, MANY, pointChecks, Verdict, accepted, refused}
+use Rattle.rule.specs.Checks.{Check, Verdict, accepted, refused}
+use Rattle.rule.specs.Rows.{MANY, pointChecks}
 use Rattle.checks.specs.declared.Screen.{Screen}
 use Rattle.checks.specs.declared.Screen.the-variants.{Clear, Refused}
 

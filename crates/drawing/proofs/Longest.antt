@@ -7,9 +7,9 @@ use lib.ListN.{length, length-append}
 use Rattle.plane.specs.declared.Point.{Point}
 use Rattle.plane.specs.declared.Rect.{Rect}
 use Rattle.plane.specs.Lists.{sum}
-use Rattle.plane.specs.Words.{areaOf, edgeOf, flatPoints}
+use Rattle.plane.specs.Words.{areaOf, edgeOf, flatPoints, mostPoints}
 use Rattle.plane.proofs.Arrays.{points-flat}
-use Rattle.rule.specs.Table.{Verdict, accepted, refused, verdict}
+use Rattle.rule.specs.Checks.{Verdict, accepted, refused, verdict}
 use Rattle.reading.specs.Reading.{pointsRead, textChecks}
 use Rattle.reading.proofs.Kept.{lines-are-points, lines-few}
 use Rattle.text.specs.declared.Report.{Report}
@@ -29,7 +29,7 @@ say-part-length : (v : View) (rs : List Rect) (r : Report) → length rs ≤ 320
 unfolding sayPart
 say-part-length v rs r n a e f = answer-length v (length rs) (sum areaOf rs) (sum edgeOf rs) r (omega arith) a e f
 
-svg-length : (ps : List Point) (rs : List Rect) (r : Report) → length ps ≤ 4096 → length rs ≤ 3200 → sum areaOf rs < 10 ^ 20 → sum edgeOf rs < 10 ^ 20 → ReportFits r → length (svgOf ps rs r) ≤ 800_000
+svg-length : (ps : List Point) (rs : List Rect) (r : Report) → length ps ≤ mostPoints → length rs ≤ 3200 → sum areaOf rs < 10 ^ 20 → sum edgeOf rs < 10 ^ 20 → ReportFits r → length (svgOf ps rs r) ≤ 800_000
 unfolding svgOf
 svg-length ps rs r m n a e f =
     let v = viewOf (frameOf ps) in
@@ -40,11 +40,11 @@ svg-length ps rs r m n a e f =
 -- ---- The points that are shown
 
 -- those shown are not too many
-points-few : (t : List ℕ) → length (pointsShown t) ≤ 4096
+points-few : (t : List ℕ) → length (pointsShown t) ≤ mostPoints
 unfolding pointsShown
 points-few t = go (verdict (textChecks t)) refl
   where
-    go : (v : Verdict) → verdict (textChecks t) ≡ v → length (shown v (pointsRead t)) ≤ 4096
+    go : (v : Verdict) → verdict (textChecks t) ≡ v → length (shown v (pointsRead t)) ≤ mostPoints
     go accepted e = omega (arith, lines-are-points t e, lines-few t e)
     go (refused k p) e = omega arith
 

@@ -9,8 +9,8 @@ use lib.Seq.{take-suc, length-take-le}
 use lib.Dec.{eqb}
 use Rattle.plane.specs.declared.Point.{Point}
 use Rattle.plane.specs.declared.Rect.{Rect}
+use Rattle.plane.specs.Words.{pointAt, rectAt}
 use Rattle.plane.proofs.Bools.{cond-case}
-use Rattle.rule.specs.Table.{pointAt, rectAt}
 use Rattle.numerals.specs.Inner.{Wrote}
 use Rattle.numerals.proofs.Writing.{wrote-length}
 use Rattle.text.specs.declared.Report.{Report}

@@ -12,8 +12,7 @@ use lib.Seq.{drop-cons}
 use lib.Signed.{mag}
 use borrow.Author.Tests.{le-ltb}
 use Rattle.plane.specs.declared.Point.{Point}
-use Rattle.plane.specs.Words.{origin}
-use Rattle.rule.specs.Table.{pointAt}
+use Rattle.plane.specs.Words.{origin, pointAt}
 use Rattle.drawing.specs.declared.Frame.{Frame}
 use Rattle.drawing.specs.Plan.{raised, about, widened, widenedBy, frameOf, spanOf, viewOf}
 use Rattle.drawing.specs.Inner.{IsRaised, ShowsAll}

@@ -13,15 +13,13 @@ use lib.Dec.{eqb}
 use borrow.Author.Tests.{eqb-true, eqb-false, le-leb, lt-leb}
 use Rattle.plane.specs.declared.Rect.{Rect}
 use Rattle.plane.specs.Lists.{sum}
-use Rattle.plane.specs.Words.{areaOf, edgeOf, pointsOf, flatPoints, rectsOf, flatRects}
+use Rattle.plane.specs.Words.{areaOf, edgeOf, pointsOf, flatPoints, rectsOf, flatRects, mostPoints}
 use Rattle.plane.proofs.Arrays.{points-flat, rects-append}
 use Rattle.rule.specs.declared.ForwardAnswer.{ForwardAnswer}
-use Rattle.rule.specs.Rule.{ruleList}
-use Rattle.rule.specs.Table.{Verdict, accepted, refused, verdict, forwardChecks}
-use Rattle.rule.specs.Answers.{written, forwardSays, forwardAnswer, forwardOut}
+use Rattle.rule.specs.Answers.{written, forwardSays, forwardAnswer, forwardOut, forwardChecks, ForwardDone, forwardList}
+use Rattle.rule.specs.Checks.{Verdict, accepted, refused, verdict}
 use Rattle.rule.proofs.Refusals.{forward-accepted}
 use Rattle.rule.proofs.Area.{rule-area-most, rule-edge-fits}
-use Rattle.panbuckle.specs.Contracts.{ForwardDone}
 use Rattle.numerals.specs.Inner.{Wrote}
 use Rattle.reading.specs.declared.ReadAnswer.{ReadAnswer}
 use Rattle.reading.specs.Reading.{pointsRead, readChecks, readSays, readAnswer, ReadDone}
@@ -49,7 +47,7 @@ pub list-small : (a : List ℤ) → let rs = listMade a in (length rs ≤ 3200) 
 unfolding sum
 list-small a = go (verdict (forwardChecks a mostWork mostList)) refl
   where
-    go : (v : Verdict) → verdict (forwardChecks a mostWork mostList) ≡ v → let rs = shown v (ruleList (pointsOf a)) in (length rs ≤ 3200) × (sum areaOf rs < 10 ^ 20) × (sum edgeOf rs < 10 ^ 20)
+    go : (v : Verdict) → verdict (forwardChecks a mostWork mostList) ≡ v → let rs = shown v (forwardList a) in (length rs ≤ 3200) × (sum areaOf rs < 10 ^ 20) × (sum edgeOf rs < 10 ^ 20)
     go accepted e =
         let c = forward-accepted a mostWork mostList .0 e in
         (c .room, omega (arith, rule-area-most (pointsOf a) (c .points)), omega (arith, rule-edge-fits (pointsOf a) (c .points)))
@@ -66,7 +64,7 @@ pub list-made : {a work out : List ℤ} {r : ForwardAnswer} {work-after out-afte
 unfolding forwardAnswer forwardOut
 list-made {a} {work} {out} {r} {out-after = after} d w o =
     let v = verdict (forwardChecks a mostWork mostList) in
-    let rs = ruleList (pointsOf a) in
+    let rs = forwardList a in
     let e : r ≡ forwardSays v rs = rw (w, o) at (d .answer) in
     let f : after ≡ written v (flatRects rs) out = rw (w, o) at (d .output) in
     let s = sums-shown v rs in
@@ -81,7 +79,7 @@ svg-made report m = rw (m .list, m .count, m .area, m .edge)
 
 -- what the reader leaves, with room for every text that is accepted: the points shown
 pub record Read (t : List ℕ) (r : ReadAnswer) (out-after : List ℤ) : Type 0 where
-  pub few : r .count ≤ 4096
+  pub few : r .count ≤ mostPoints
   pub fits : 2 * r .count ≤ length out-after
   pub numbers : take (2 * r .count) out-after ≡ flatPoints (pointsShown t)
 

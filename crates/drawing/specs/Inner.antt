@@ -6,10 +6,9 @@ use lib.IntN.{ℤ}
 use lib.Dec.{eqb}
 use Rattle.plane.specs.declared.Point.{Point}
 use Rattle.plane.specs.declared.Rect.{Rect}
-use Rattle.plane.specs.Words.{pointsOf}
 use Rattle.rule.specs.declared.ForwardAnswer.{ForwardAnswer}
-use Rattle.rule.specs.Rule.{ruleList}
-use Rattle.rule.specs.Table.{verdict, forwardChecks}
+use Rattle.rule.specs.Checks.{verdict}
+use Rattle.rule.specs.Answers.{forwardChecks, forwardList}
 use Rattle.numerals.specs.Bytes.{ascii}
 use Rattle.numerals.specs.Numerals.{decimal}
 use Rattle.text.specs.declared.Report.{Report}
@@ -55,4 +54,4 @@ svgWith ps rs sums r =
 
 -- the list that forward makes of an array, with the program's work and room; none, if it refuses the array
 abbrev pub listMade : List ℤ → List Rect
-listMade a = shown (verdict (forwardChecks a mostWork mostList)) (ruleList (pointsOf a))
+listMade a = shown (verdict (forwardChecks a mostWork mostList)) (forwardList a)

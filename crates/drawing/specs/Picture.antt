@@ -10,7 +10,8 @@ use Rattle.plane.specs.declared.Rect.{Rect}
 use Rattle.plane.specs.Lists.{sum}
 use Rattle.plane.specs.Words.{areaOf, edgeOf, flatPoints}
 use Rattle.rule.specs.Rule.{ruleList}
-use Rattle.rule.specs.Table.{Verdict, accepted, refused, verdict, forwardChecks}
+use Rattle.rule.specs.Checks.{Verdict, accepted, refused, verdict}
+use Rattle.rule.specs.Answers.{forwardChecks}
 use Rattle.numerals.specs.Bytes.{ascii, pasted}
 use Rattle.numerals.specs.Numerals.{decimal}
 use Rattle.reading.specs.Reading.{pointsRead, textChecks}

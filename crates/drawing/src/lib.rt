@@ -5,7 +5,7 @@ ghost use mathlib.Core.Path.{_≡_};
 ghost use lib.ListN.{length, take, getD};
 ghost use lib.Dec.{eqb};
 ghost use Rattle.plane.specs.Lists.{bit};
-ghost use Rattle.plane.specs.Words.{pointsOf, rectsOf};
+ghost use Rattle.plane.specs.Words.{pointsOf, rectsOf, rectSize};
 ghost use Rattle.numerals.specs.Inner.{Wrote};
 ghost use Rattle.drawing.specs.Plan.{extent, raised, about, widened, frameOf, spanOf, scaled, viewOf, across, down, beside, boxOf, numberSize, dotRadius};
 ghost use Rattle.drawing.specs.Picture.{blank, filled, headOf, blockOf, blocks, dotOf, dots, markOf, listSays, refusedSays, refusalSays, listPart, pointPart, markPart, svgOf, Drawn};
@@ -18,8 +18,8 @@ use panbuckle::ForwardAnswer;
 use panbuckle::Point;
 use panbuckle::Rect;
 use panbuckle::forward;
-use places::point_at;
-use places::rect_at;
+use plane::point_at;
+use plane::rect_at;
 use reading::read_points;
 use rule::COLUMN;
 use rule::DONE;
@@ -334,7 +334,7 @@ fn put_block(out: &mut [u8], at: usize, number: usize, b: Box) -> usize
 
 // The first n rectangles, numbered from 0.
 fn put_blocks(out: &mut [u8], at: usize, v: View, rects: &[i32], n: usize) -> usize
-    requires { ⌜ ShowsAll v × (n ≤ 3200) × (4 * n ≤ length (now rects)) × (at + 160 * n ≤ length (now out)) ⌝ }
+    requires { ⌜ ShowsAll v × (n ≤ 3200) × (rectSize * n ≤ length (now rects)) × (at + 160 * n ≤ length (now out)) ⌝ }
     ensures { λ r. ⌜ Wrote (now (out .entry)) at (blocks v 0 (take n (rectsOf (now (rects .entry))))) r (now (out .exit)) ⌝ }
 {
     let mut next = at;
@@ -448,7 +448,7 @@ fn put_refusal(out: &mut [u8], at: usize, v: View, r: Report) -> usize
 // ---- The picture
 
 fn put_list(out: &mut [u8], v: View, rects: &[i32], n: usize) -> usize
-    requires { ⌜ ShowsAll v × (n ≤ 3200) × (4 * n ≤ length (now rects)) × (520_000 ≤ length (now out)) ⌝ }
+    requires { ⌜ ShowsAll v × (n ≤ 3200) × (rectSize * n ≤ length (now rects)) × (520_000 ≤ length (now out)) ⌝ }
     ensures { λ r. ⌜ Wrote (now (out .entry)) 0 (listPart v (take n (rectsOf (now (rects .entry))))) r (now (out .exit)) ⌝ }
 {
     let a = put_head(out, v);
@@ -492,7 +492,7 @@ fn put_picture(
     sums: ForwardAnswer,
     r: Report,
 ) -> usize
-    requires { ⌜ (length (now points) ≤ 8192) × (sums .count ≤ 3200) × (4 * sums .count ≤ length (now rects)) × (800_000 ≤ length (now out)) ⌝ }
+    requires { ⌜ (length (now points) ≤ 8192) × (sums .count ≤ 3200) × (rectSize * sums .count ≤ length (now rects)) × (800_000 ≤ length (now out)) ⌝ }
     ensures { λ n. ⌜ Wrote (now (out .entry)) 0 (svgWith (pointsOf (now (points .entry))) (take (sums .count) (rectsOf (now (rects .entry)))) sums r) n (now (out .exit)) ⌝ }
 {
     let v = view_of(frame_of(points));

@@ -18,7 +18,7 @@ use Rattle.plane.proofs.Points.{after-row}
 use Rattle.plane.proofs.Alike.{even-none}
 use Rattle.plane.proofs.Rising.{rising-least}
 use Rattle.rule.specs.Rule.{leftOf, ruleList}
-use Rattle.rule.specs.Table.{Accepted}
+use Rattle.rule.specs.Rows.{Accepted}
 use Rattle.live.specs.declared.Live.{Live}
 use Rattle.live.specs.Stands.{after, number, endOf, IsLive, Apart, far, Stand, stand, Before, waiting, nextOn, Sweeping}
 use Rattle.live.proofs.Numbered.{after-accepted, all-made, top-on-row}

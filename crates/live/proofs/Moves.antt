@@ -17,7 +17,7 @@ use Rattle.plane.proofs.Sums.{all-last-added}
 use Rattle.plane.proofs.Parity.{odd-cons}
 use Rattle.plane.proofs.Rising.{rising-rest, rising-along, inOrder-rising, inOrder-of, inOrder-all, inOrder-odd}
 use Rattle.rule.specs.Rule.{leftAfter, ruleList}
-use Rattle.rule.specs.Table.{Accepted}
+use Rattle.rule.specs.Rows.{Accepted}
 use Rattle.live.specs.declared.Live.{Live}
 use Rattle.live.specs.Stands.{after, rectNo, endOf, IsLive, none-live, far, Stand, stand, shows, Before, nextOn, Sweeping}
 use Rattle.live.proofs.NextRect.{Begins, steps-past, hand-near, begins}

@@ -17,7 +17,7 @@ use Rattle.plane.proofs.Sums.{any-in, sum-in, sum-length}
 use Rattle.plane.proofs.Parity.{odd-none, once-odd}
 use Rattle.plane.proofs.Points.{same-is, same-in, same-refl, After, after-refl, after-trans, after-no, after-yes, before-above, before-along, before-all, before-apart, before-trans}
 use Rattle.rule.specs.Rule.{leftOf, rightOf, toggleFour, ruleList, IsFirst}
-use Rattle.rule.specs.Table.{Accepted}
+use Rattle.rule.specs.Rows.{Accepted}
 use Rattle.rule.proofs.Toggle.{odd-four}
 use Rattle.rule.proofs.Picks.{is-first, first-unique, higher}
 use Rattle.live.specs.declared.Live.{Live}

@@ -16,7 +16,7 @@ use Rattle.plane.specs.Words.{flat, rectInRange, onRow, right, top}
 use Rattle.plane.proofs.Order.{far-side, eqZ-is, eqZ-refl}
 use Rattle.plane.proofs.Sums.{any-find, any-in}
 use Rattle.rule.specs.Rule.{pickK, pickL, pickM, rectOf, toggleFour, takeRect, step, leftAfter, ruleList, Picked}
-use Rattle.rule.specs.Table.{Accepted}
+use Rattle.rule.specs.Rows.{Accepted}
 use Rattle.rule.proofs.Picks.{picks-some}
 use Rattle.rule.proofs.Steps.{step-all, step-solid, step-in-range, step-keeps-accepted, Steps, stay, more, steps, steps-accepted}
 use Rattle.rule.proofs.Bound.{rule-none, rule-next}

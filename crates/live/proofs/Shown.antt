@@ -19,7 +19,7 @@ use Rattle.plane.proofs.Parity.{odd-none-of, odd-cons, odd-append}
 use Rattle.plane.proofs.Points.{After, above, along}
 use Rattle.plane.proofs.Rising.{rising-least, rising-along}
 use Rattle.rule.specs.Rule.{leftOf, ruleList}
-use Rattle.rule.specs.Table.{Accepted}
+use Rattle.rule.specs.Rows.{Accepted}
 use Rattle.live.specs.declared.Live.{Live}
 use Rattle.live.specs.Stands.{rectNo, number, endOf, IsLive, tops, Apart, then-right, far, stand, waiting, shows, nextOn}
 use Rattle.live.proofs.Numbered.{rect-no-solid}

@@ -19,7 +19,7 @@ use Rattle.plane.proofs.Sums.{any-find, any-in}
 use Rattle.plane.proofs.Parity.{odd-cong, odd-find}
 use Rattle.plane.proofs.Points.{After, above, along, odd-without}
 use Rattle.rule.specs.Rule.{over, leftOf, stops, stopper, rectOf, toggleFour, ruleList, Picked}
-use Rattle.rule.specs.Table.{Accepted}
+use Rattle.rule.specs.Rows.{Accepted}
 use Rattle.rule.proofs.Picks.{after-k, level, right-of, clear, over-make}
 use Rattle.rule.proofs.Toggle.{odd-four}
 use Rattle.rule.proofs.Inside.{holds-rect, marks-four, inside, even-by-rows}

@@ -12,7 +12,7 @@ use Rattle.plane.specs.Words.{top}
 use Rattle.plane.proofs.Order.{order}
 use Rattle.plane.proofs.Bools.{by, xor-false, false-xor, xor-back, xor-assoc, xor-left-comm}
 use Rattle.rule.specs.Rule.{leftOf, ruleList}
-use Rattle.rule.specs.Table.{Accepted}
+use Rattle.rule.specs.Rows.{Accepted}
 use Rattle.rule.proofs.Picks.{level}
 use Rattle.rule.proofs.Toggle.{odd-four}
 use Rattle.live.specs.declared.Live.{Live}

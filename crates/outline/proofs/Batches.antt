@@ -13,15 +13,16 @@ use borrow.Author.Tests.{ltb-true, ltb-false, lt-ltb, le-ltb, le-leb, lt-leb}
 use Rattle.plane.specs.declared.Point.{Point}
 use Rattle.plane.specs.declared.Rect.{Rect}
 use Rattle.plane.specs.Lists.{odd, only}
-use Rattle.plane.specs.Words.{flatPoints, cornersOf, pointInRange, risingAfter, rising}
+use Rattle.plane.specs.Words.{flatPoints, cornersOf, pointInRange, risingAfter, rising, rectAt}
 use Rattle.plane.proofs.Bools.{and-make, xor-false, false-xor}
 use Rattle.plane.proofs.Sums.{keep-append, in-only, length-only, only-all, only-none}
 use Rattle.plane.proofs.Parity.{odd-none-of, odd-only}
 use Rattle.plane.proofs.Rising.{rising-before, rising-rest, only-rising}
 use Rattle.plane.proofs.Arrays.{length-flat-points, flat-append}
 use Rattle.rule.specs.Back.{corners, backList}
-use Rattle.rule.specs.Table.{accepted, rectAt, AcceptedRects}
 use Rattle.rule.specs.Answers.{written}
+use Rattle.rule.specs.Checks.{accepted}
+use Rattle.rule.specs.Rows.{AcceptedRects}
 use Rattle.rule.proofs.Backward.{back-rising, back-alike, back-accepted}
 use Rattle.rule.proofs.Memory.{written-part}
 use Rattle.outline.specs.declared.Batch.{Batch}

@@ -14,12 +14,11 @@ use Rattle.plane.specs.Words.{same, rising, holds, marks, flatPoints, rectsOf}
 use Rattle.plane.proofs.Arrays.{points-append, length-flat-points}
 use Rattle.rule.specs.declared.BackwardAnswer.{BackwardAnswer}
 use Rattle.rule.specs.Back.{oddCorner, backList}
-use Rattle.rule.specs.Table.{FirstGiven, verdict, backwardChecks, accepted}
-use Rattle.rule.specs.Answers.{written, backwardSays, backwardAnswer, backwardOut}
+use Rattle.rule.specs.Answers.{written, backwardSays, backwardAnswer, backwardOut, backwardChecks, BackwardDone, pointsListed}
+use Rattle.rule.specs.Checks.{FirstGiven, verdict, accepted}
 use Rattle.rule.proofs.Refusals.{backward-refuses, backward-accepts-exactly, backward-accepted}
 use Rattle.rule.proofs.Memory.{backward-done-place, backward-refused-rest, backward-refused-out, backward-out-length}
 use Rattle.rule.proofs.Backward.{back-points, back-rising, back-marks}
-use Rattle.outline.specs.Contracts.{BackwardDone, pointsListed}
 
 -- ---- Demand 1: for every input points or a numbered refusal, each exactly when its rule says so, and the output is then untouched
 

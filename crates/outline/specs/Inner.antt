@@ -1,4 +1,4 @@
--- What the private functions speak of. No caller needs these definitions: the promise is in Contracts.
+-- What the private functions speak of. No caller needs these definitions: the promise is in the crate `rule`.
 use Prim.Native.Nat.{ℕ, _+_, _*_, _/_, _%_, _<_, _≤_}
 use mathlib.Core.Path.{_≡_}
 use mathlib.Core.Bool.{Bool, true, false, not, cond, _&&_, _||_, xor}
@@ -9,8 +9,8 @@ use lib.Dec.{eqb, leb, ltb}
 use Rattle.plane.specs.declared.Point.{Point}
 use Rattle.plane.specs.declared.Rect.{Rect}
 use Rattle.plane.specs.Lists.{odd, only}
-use Rattle.plane.specs.Words.{highEnd, inRange, rectInRange, flat, right, top}
-use Rattle.rule.specs.Table.{Check, each, rectAt}
+use Rattle.plane.specs.Words.{highEnd, inRange, rectInRange, flat, right, top, rectAt}
+use Rattle.rule.specs.Checks.{Check, each}
 use Rattle.outline.specs.declared.Batch.{Batch}
 
 -- ---- Checks
@@ -20,12 +20,12 @@ abbrev pub spansRange : (near by : ℤ) → Bool
 spansRange near by = inRange near && inRange (near +ℤ by)
 
 -- the rectangle offends against the row of the table with this number, of 9 and 4
-abbrev pub offends : (number : ℕ) → Rect → Bool
-offends number r = cond (eqb number 9) (flat r) (not (rectInRange r))
+abbrev pub rectOffends : (number : ℕ) → Rect → Bool
+rectOffends number r = cond (eqb number 9) (flat r) (not (rectInRange r))
 
 -- the check with this number
 abbrev pub rectCheck : (number : ℕ) → List Rect → Check
-rectCheck number rs = each number (length rs) (λ i. offends number (rectAt rs i))
+rectCheck number rs = each number (length rs) (λ i. rectOffends number (rectAt rs i))
 
 -- ---- Keys
 

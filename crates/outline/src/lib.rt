@@ -1,6 +1,6 @@
 // The corner points of a list of rectangles: the points of its outline.
-// The public function is `backward`, at the end. What it promises is in specs/Contracts.antt; the rule, the refusals and the answer
-// are the definitions of the crate `rule`.
+// The public function is `backward`, at the end. What it promises, the rule, the refusals and the answer are the definitions of the crate
+// `rule`.
 // A point is told by a number, its key, that rises in the order of y, then x. The keys of all corners would be half a mebibyte, so the
 // points are listed in batches: one pass over the rectangles gathers the lowest keys from a start on, as many as a small array holds.
 ghost use mathlib.Core.Path.{_≡_};
@@ -9,15 +9,20 @@ ghost use mathlib.Core.List.{[], _∷_};
 ghost use mathlib.Core.Option.{Option·getD};
 ghost use lib.ListN.{length, take};
 ghost use Prim.Native.Nat.{_+_, _*_, _/_, _<_, _≤_};
-ghost use Rattle.plane.specs.Words.{inRange, pointInRange, rectInRange, flat, cornersOf, rectsOf, flatPoints};
+ghost use Rattle.plane.specs.Words.{inRange, pointInRange, rectInRange, flat, cornersOf, rectsOf, flatPoints, rectAt, rectSize};
 ghost use Rattle.sorting.specs.Sorted.{sorted};
 ghost use Rattle.rule.specs.Back.{backList};
-ghost use Rattle.rule.specs.Table.{accepted, rectAt, placeGiven, BackwardAccepted, AcceptedRects};
-ghost use Rattle.rule.specs.Answers.{written};
-ghost use Rattle.outline.specs.Inner.{spansRange, offends, rectCheck, fromLow, above, keyOf, pointOf, keysOf, pointsAt, isKey, endOfKeys, AreKeys, cornerAt, misses, endsWith, OddOnes, mostKeys, Takes, RoomMade, IsBatch};
-ghost use Rattle.outline.specs.Contracts.{BackwardDone};
+ghost use Rattle.rule.specs.Answers.{written, BackwardAccepted, BackwardDone};
+ghost use Rattle.rule.specs.Checks.{accepted, placeGiven};
+ghost use Rattle.rule.specs.Rows.{AcceptedRects};
+ghost use Rattle.outline.specs.Inner.{spansRange, rectOffends, rectCheck, fromLow, above, keyOf, pointOf, keysOf, pointsAt, isKey, endOfKeys, AreKeys, cornerAt, misses, endsWith, OddOnes, mostKeys, Takes, RoomMade, IsBatch};
+use plane::HIGH_END;
+use plane::LOW_END;
+use plane::MOST_RECTS;
 use plane::Point;
+use plane::RECT_SIZE;
 use plane::Rect;
+use plane::rect_at;
 use rule::BackwardAnswer;
 use rule::DONE;
 use rule::FLAT;
@@ -26,22 +31,12 @@ use rule::MANY;
 use rule::RANGE;
 use rule::ROOM;
 
-// The most rectangles that backward takes.
-pub const MOST_RECTS: usize = 16384;
-
 // ---- Checks
 
-fn rect_at(a: &[i32], i: usize) -> Rect
-    requires { ⌜ 4 * i + 3 < length (now a) ⌝ }
-    ensures { λ r. ⌜ r ≡ rectAt (rectsOf (now (a .entry))) i ⌝ }
-{
-    Rect {
-        x: a[4 * i],
-        y: a[4 * i + 1],
-        w: a[4 * i + 2],
-        h: a[4 * i + 3],
-    }
-}
+// The ends of the range, in 64 bits.
+const LOW: i64 = LOW_END as i64;
+
+const HIGH: i64 = HIGH_END as i64;
 
 fn is_flat(r: Rect) -> bool
     ensures { λ u. ⌜ u ≡ flat r ⌝ }
@@ -55,8 +50,7 @@ fn spans_range(near: i32, by: i32) -> bool
 {
     let low = near as i64;
     let high = low + (by as i64);
-    ((-1_000_000_000 <= low) & (low <= 1_000_000_000))
-        & ((-1_000_000_000 <= high) & (high <= 1_000_000_000))
+    ((LOW <= low) & (low <= HIGH)) & ((LOW <= high) & (high <= HIGH))
 }
 
 fn is_in_range(r: Rect) -> bool
@@ -67,7 +61,7 @@ fn is_in_range(r: Rect) -> bool
 
 // Whether the rectangle offends against the check with this number: FLAT or RANGE.
 fn is_bad(number: u32, r: Rect) -> bool
-    ensures { λ u. ⌜ u ≡ offends number r ⌝ }
+    ensures { λ u. ⌜ u ≡ rectOffends number r ⌝ }
 {
     if number == FLAT {
         is_flat(r)
@@ -78,9 +72,9 @@ fn is_bad(number: u32, r: Rect) -> bool
 
 // The place of the first rectangle that offends, and their number where none does.
 fn first_bad(rects: &[i32], number: u32) -> usize
-    ensures { λ r. ⌜ r ≡ Option·getD (placeGiven (rectCheck number (rectsOf (now (rects .entry))))) (length (now (rects .entry)) / 4) ⌝ }
+    ensures { λ r. ⌜ r ≡ Option·getD (placeGiven (rectCheck number (rectsOf (now (rects .entry))))) (length (now (rects .entry)) / rectSize) ⌝ }
 {
-    let n = rects.len() / 4;
+    let n = rects.len() / RECT_SIZE;
     let mut i = 0;
     while i < n {
         if is_bad(number, rect_at(rects, i)) {
@@ -104,7 +98,7 @@ fn from_low(z: i32) -> u64
     requires { ⌜ inRange z ≡ true ⌝ }
     ensures { λ r. ⌜ r ≡ fromLow z ⌝ }
 {
-    ((z as i64) + 1_000_000_000) as u64
+    ((z as i64) + HIGH) as u64
 }
 
 // The coordinate that is so far above the low end.
@@ -112,7 +106,7 @@ fn above_low(n: u64) -> i32
     requires { ⌜ n ≤ 2_000_000_000 ⌝ }
     ensures { λ r. ⌜ r ≡ above n ⌝ }
 {
-    ((n as i64) - 1_000_000_000) as i32
+    ((n as i64) - HIGH) as i32
 }
 
 fn key_of(p: Point) -> u64
@@ -267,7 +261,7 @@ fn gather(rects: &[i32], keys: &mut [u64], start: u64, end: u64) -> Batch
     requires { ⌜ (start < end) × (mostKeys ≤ length (now keys)) ⌝ }
     ensures { λ r. ⌜ IsBatch (backList (rectsOf (now (rects .entry)))) start end r (take (r .count) (now (keys .exit))) ⌝ }
 {
-    let n = rects.len() / 4;
+    let n = rects.len() / RECT_SIZE;
     let mut b = keys_below(end, 0);
     let mut i = 0;
     while i < n {
@@ -350,7 +344,7 @@ fn outlined(rects: &[i32], points: &mut [i32]) -> BackwardAnswer
     ensures { λ r. ⌜ BackwardDone (now (rects .entry)) (now (points .entry)) r (now (points .exit)) ⌝ }
 {
     let mut keys: [u64; MOST_KEYS] = [0; MOST_KEYS];
-    if points.len() / 8 < rects.len() / 4 {
+    if points.len() / 8 < rects.len() / RECT_SIZE {
         let needed = list_points(rects, &mut keys, points, false);
         if points.len() / 2 < needed {
             return no_points(ROOM, needed as u64);
@@ -370,8 +364,8 @@ fn outlined(rects: &[i32], points: &mut [i32]) -> BackwardAnswer
 pub fn backward(rects: &[i32], points: &mut [i32]) -> BackwardAnswer
     ensures { λ r. ⌜ BackwardDone (now (rects .entry)) (now (points .entry)) r (now (points .exit)) ⌝ }
 {
-    let n = rects.len() / 4;
-    if rects.len() % 4 != 0 {
+    let n = rects.len() / RECT_SIZE;
+    if rects.len() % RECT_SIZE != 0 {
         return no_points(LENGTH, 0);
     }
     if MOST_RECTS < n {

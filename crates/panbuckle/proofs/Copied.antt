@@ -8,11 +8,10 @@ use lib.ListN.{length}
 use lib.IntN.{ℤ}
 use Rattle.plane.specs.Words.{pointsOf}
 use Rattle.plane.proofs.Arrays.{length-points, points-start}
-use Rattle.rule.specs.Answers.{workOf}
-use Rattle.rule.specs.Table.{ForwardAccepted}
+use Rattle.rule.specs.Answers.{workOf, ForwardAccepted}
 use Rattle.rule.proofs.Memory.{work-length, work-points, work-again}
-use Rattle.panbuckle.specs.Contracts.{copied}
 use Rattle.panbuckle.specs.Inner.{held}
+use Rattle.panbuckle.specs.Calls.{copied}
 use Rattle.panbuckle.proofs.Taking.{Holds}
 
 module _ (a work : List ℤ) where

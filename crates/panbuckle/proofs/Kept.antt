@@ -12,21 +12,21 @@ use lib.IntN.{ℤ, pos}
 use Rattle.plane.specs.declared.Point.{Point}
 use Rattle.plane.specs.declared.Rect.{Rect}
 use Rattle.plane.specs.Lists.{bit, count, sum}
-use Rattle.plane.specs.Words.{pointsOf, flatPoints, flatRects, rising, lowerLeft, areaOf, edgeOf, holds, marks, cells}
+use Rattle.plane.specs.Words.{pointsOf, flatPoints, flatRects, rising, lowerLeft, areaOf, edgeOf, holds, marks, cells, rectSize}
 use Rattle.plane.proofs.Arrays.{length-points, rects-append, length-flat-rects}
 use Rattle.rule.specs.declared.ForwardAnswer.{ForwardAnswer}
 use Rattle.rule.specs.declared.StepAnswer.{StepAnswer}
 use Rattle.rule.specs.declared.StepAnswer.the-variants.{Rectangle}
-use Rattle.rule.specs.Rule.{step, ruleList, rowCount}
-use Rattle.rule.specs.Table.{FirstGiven, forwardChecks, stepChecks, accepted, Accepted, AcceptedRects}
-use Rattle.rule.specs.Answers.{written, Starts, forwardSays, forwardAnswer, forwardOut, stepNumber, stepPlace, stepValues}
+use Rattle.rule.specs.Rule.{step, rowCount}
+use Rattle.rule.specs.Answers.{written, Starts, forwardSays, forwardAnswer, forwardOut, stepNumber, stepPlace, stepValues, forwardChecks, stepChecks, ForwardDone, listOf, StepDone, forwardList, forwardSums}
+use Rattle.rule.specs.Checks.{FirstGiven, accepted}
+use Rattle.rule.specs.Rows.{Accepted, AcceptedRects}
 use Rattle.rule.proofs.Refusals.{forward-refuses, step-refuses, step-accepts-exactly, step-accepted}
 use Rattle.rule.proofs.Steps.{accepted-step}
 use Rattle.rule.proofs.Memory.{forward-done-place, forward-refused-rest, forward-refused-out, forward-refused-work, forward-zeroed-work, forward-work-length, forward-out-length, work-points, taken-step, step-refused-work, step-leaves, step-work-length}
 use Rattle.rule.proofs.Bound.{rule-bound}
 use Rattle.rule.proofs.Rising.{rule-rising, rule-rects}
 use Rattle.rule.proofs.Demands.{forward-verdict, array-accepted, forward-covers, forward-area, forward-canon}
-use Rattle.panbuckle.specs.Contracts.{ForwardDone, listOf, StepDone}
 
 -- ---- Demand 1: for every input a list or a numbered refusal, each exactly when its rule says so, and the output is then untouched
 
@@ -95,26 +95,26 @@ module _ {a work out : List ℤ} {r : ForwardAnswer} {work-after out-after : Lis
   answers-0 = rw (d .answer) at done
 
   -- the answer is that of the rule's list
-  answers-list : r ≡ forwardSays accepted (ruleList (pointsOf a))
+  answers-list : r ≡ forwardSays accepted (forwardSums a)
   unfolding forwardAnswer
   answers-list = rw (d .answer, forward-verdict a (length work) (length out) answers-0)
 
   -- the output is that of the rule's list
-  writes-list : out-after ≡ written accepted (flatRects (ruleList (pointsOf a))) out
+  writes-list : out-after ≡ written accepted (flatRects (forwardList a)) out
   unfolding forwardOut
   writes-list = rw (d .output, forward-verdict a (length work) (length out) answers-0)
 
   -- on 0 the output holds the rule's list at its start
-  pub done-list : listOf r out-after ≡ ruleList (pointsOf a)
-  done-list = let rs = ruleList (pointsOf a) in rw (answers-list, writes-list, rects-append rs (drop (length (flatRects rs)) out)) (take-append-seam rs _)
+  pub done-list : listOf r out-after ≡ forwardList a
+  done-list = let rs = forwardList a in rw (answers-list, writes-list, rects-append rs (drop (length (flatRects rs)) out)) (take-append-seam rs _)
 
   -- as numbers it is the first ones, four for each rectangle counted
-  pub done-numbers : take (4 * r .count) out-after ≡ flatRects (ruleList (pointsOf a))
-  done-numbers = let rs = ruleList (pointsOf a) in rw (answers-list, writes-list, ← length-flat-rects rs) (take-append-seam (flatRects rs) _)
+  pub done-numbers : take (rectSize * r .count) out-after ≡ flatRects (forwardList a)
+  done-numbers = let rs = forwardList a in rw (answers-list, writes-list, ← length-flat-rects rs) (take-append-seam (flatRects rs) _)
 
   -- and the output is otherwise unchanged
-  pub done-rest : drop (4 * r .count) out-after ≡ drop (4 * r .count) out
-  done-rest = let rs = ruleList (pointsOf a) in rw (answers-list, writes-list, ← length-flat-rects rs) (drop-append-seam (flatRects rs) _)
+  pub done-rest : drop (rectSize * r .count) out-after ≡ drop (rectSize * r .count) out
+  done-rest = let rs = forwardList a in rw (answers-list, writes-list, ← length-flat-rects rs) (drop-append-seam (flatRects rs) _)
 
   -- the count, the area (the sum of W·H) and the edge (the sum of 2·(W+H)) are those of the rectangles written
   pub done-sums : let list = listOf r out-after in (r .count ≡ length list) × (r .area ≡ sum areaOf list) × (r .edge ≡ sum edgeOf list)

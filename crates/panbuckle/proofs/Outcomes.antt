@@ -5,7 +5,7 @@ use mathlib.Core.List.{List}
 use lib.IntN.{ℤ}
 use Rattle.rule.specs.declared.ForwardAnswer.{ForwardAnswer}
 use Rattle.rule.specs.declared.StepAnswer.{StepAnswer}
-use Rattle.panbuckle.specs.Contracts.{ForwardDone, StepDone}
+use Rattle.rule.specs.Answers.{ForwardDone, StepDone}
 
 -- two outcomes of forward on the same arrays are equal
 pub forward-one-outcome : {a work out : List ℤ} {r s : ForwardAnswer} {v w o p : List ℤ} → ForwardDone a work out r v o → ForwardDone a work out s w p → (r ≡ s) × (v ≡ w) × (o ≡ p)

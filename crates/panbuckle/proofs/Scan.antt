@@ -6,10 +6,9 @@ use mathlib.Core.List.{List, [], _∷_, _++_}
 use lib.ListN.{length, take, drop}
 use lib.Seq.{getD-take, length-take-le, take-take}
 use lib.IntN.{ℤ}
-use Rattle.plane.specs.Words.{pointsOf, origin}
+use Rattle.plane.specs.Words.{pointsOf, origin, pointAt}
 use Rattle.plane.proofs.Arrays.{length-points, points-next}
 use Rattle.plane.proofs.Places.{stretch-next, stretch-none}
-use Rattle.rule.specs.Table.{pointAt}
 use Rattle.panbuckle.specs.Inner.{held}
 
 module _ (n : ℕ) (a : List ℤ) (fits : 2 * n ≤ length a) where

@@ -14,14 +14,14 @@ use Rattle.rule.specs.declared.ForwardAnswer.{ForwardAnswer}
 use Rattle.rule.specs.declared.StepAnswer.{StepAnswer}
 use Rattle.rule.specs.declared.StepAnswer.the-variants.{Rectangle, Refused}
 use Rattle.rule.specs.Rule.{Taken, step, run, leftAfter, enough, ruleList}
-use Rattle.rule.specs.Table.{Accepted}
-use Rattle.rule.specs.Answers.{workOf, forwardAnswer, forwardOut, forwardWork}
+use Rattle.rule.specs.Answers.{workOf, forwardAnswer, forwardOut, forwardWork, ForwardDone, StepDone, forwardList}
+use Rattle.rule.specs.Rows.{Accepted}
 use Rattle.rule.proofs.Refusals.{forward-accepts-exactly, forward-needs, forward-fits}
 use Rattle.rule.proofs.Steps.{accepted-step}
 use Rattle.rule.proofs.Bound.{rule-ends}
 use Rattle.rule.proofs.Memory.{work-length, work-points, work-again, drained-step, taken-step, forward-drained-work}
-use Rattle.panbuckle.specs.Contracts.{ForwardDone, StepDone, copied, Stepped, drained, another, Reached, at-start, onward}
 use Rattle.panbuckle.specs.Inner.{held}
+use Rattle.panbuckle.specs.Calls.{copied, Stepped, emptied, another, Reached, at-start, onward}
 use Rattle.panbuckle.proofs.Scan.{held-length}
 use Rattle.panbuckle.proofs.Taking.{Holds, holds-ready}
 use Rattle.panbuckle.proofs.Copied.{copied-points, copied-drained, copied-holds}
@@ -88,7 +88,7 @@ stepped-none : (work : List ℤ) (n : ℕ) → Holds work n → held n work ≡ 
 unfolding workOf flatPoints
 stepped-none work n h e =
     let z : n ≡ 0 = sym (held-length n work (h .working)) ∙ ap length e in
-    rw z (drained (none-left work))
+    rw z (emptied (none-left work))
 
 -- from accepted points the calls give the rule's run, and drain the array
 stepped-run : (f : ℕ) (work : List ℤ) (n : ℕ) (ps : List Point) → held n work ≡ ps → Holds work n → leftAfter step f ps ≡ [] → Stepped work n (run step f ps) (workOf n [] work)
@@ -104,9 +104,9 @@ stepped-run (suc f) work n (p ∷ qs) e h d =
 
 -- calls with the same start give the same rectangles and the same array
 pub stepped-one-outcome : {work : List ℤ} {n : ℕ} {rs ss : List Rect} {v w : List ℤ} → Stepped work n rs v → Stepped work n ss w → (rs ≡ ss) × (v ≡ w)
-stepped-one-outcome (drained d) (drained e) = (refl, step-one-outcome d e .1)
-stepped-one-outcome (drained d) (another e t) = absurd (apart (step-one-outcome e d .0))
-stepped-one-outcome (another d s) (drained e) = absurd (apart (step-one-outcome d e .0))
+stepped-one-outcome (emptied d) (emptied e) = (refl, step-one-outcome d e .1)
+stepped-one-outcome (emptied d) (another e t) = absurd (apart (step-one-outcome e d .0))
+stepped-one-outcome (another d s) (emptied e) = absurd (apart (step-one-outcome d e .0))
 stepped-one-outcome (another {m = m} d s) (another {m = j} e t) =
     let o = step-one-outcome d e in
     let f : m ≡ j = cc (o .0) in
@@ -126,7 +126,7 @@ module _ (a work : List ℤ) (out : ℕ) (h : (forwardAnswer a (length work) out
   reached-accepted (onward s d) = call-holds (reached-accepted s) d
 
   -- where forward answers 0 or 8, calls on the points copied give the list, and leave the working array as forward does
-  pub forward-stepped : Stepped (copied a work) (length a / 2) (ruleList (pointsOf a)) (forwardWork a work out)
+  pub forward-stepped : Stepped (copied a work) (length a / 2) (forwardList a) (forwardWork a work out)
   unfolding ruleList
   forward-stepped =
       rw (forward-drained-work a work out h, ← copied-drained a work)

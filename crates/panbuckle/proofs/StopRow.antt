@@ -13,7 +13,7 @@ use lib.Signed.{leZ, ltZ}
 use borrow.Author.Tests.{not-true}
 use Rattle.plane.specs.declared.Point.{Point}
 use Rattle.plane.specs.Lists.{any, count, odd}
-use Rattle.plane.specs.Words.{origin, pointsOf, eqZ, same, onRow}
+use Rattle.plane.specs.Words.{origin, pointsOf, eqZ, same, onRow, pointAt}
 use Rattle.plane.proofs.Order.{order, eqZ-refl, same-ℤ}
 use Rattle.plane.proofs.Bools.{by, by-no, iff, clash, and-parts, and-make, or-right, xor-comm, xor-false, false-xor}
 use Rattle.plane.proofs.Sums.{any-find, any-in, count-in}
@@ -21,7 +21,7 @@ use Rattle.plane.proofs.Parity.{odd-none-of, odd-cons, odd-cong, odd-none, odd-
 use Rattle.plane.proofs.Places.{in-at}
 use Rattle.plane.proofs.Points.{same-is, same-refl, odd-without, After, above, along, after-row}
 use Rattle.rule.specs.Rule.{firstOf, toggle, over, leftOf, stops, stopper, pickM, IsFirst, Picked}
-use Rattle.rule.specs.Table.{pointAt, Accepted}
+use Rattle.rule.specs.Rows.{Accepted}
 use Rattle.rule.proofs.Toggle.{toggle-length, odd-toggle, once-toggle}
 use Rattle.rule.proofs.Picks.{least, after-k, higher, clear, first-found, above-in-column, right-of, over-make}
 use Rattle.panbuckle.specs.Inner.{held, Begun, cross, overWidth, beside, IsHighest, Toggled, whole, given-up, OddBeside, Between}

@@ -9,20 +9,20 @@ use lib.IntN.{ℤ, _-ℤ_}
 use mir.Syntax.{w32}
 use mir.Val.{SFits}
 use Rattle.plane.specs.declared.Point.{Point}
+use Rattle.plane.specs.Words.{mostPoints}
 use Rattle.rule.specs.declared.StepAnswer.the-variants.{Rectangle}
 use Rattle.rule.specs.Rule.{pickM, rectOf, toggle, toggleFour, takeRect, step, Picked}
-use Rattle.rule.specs.Answers.{workOf}
+use Rattle.rule.specs.Answers.{workOf, StepAccepted, StepDone}
+use Rattle.rule.specs.Rows.{Accepted}
 use Rattle.rule.proofs.Picks.{picks-some}
 use Rattle.rule.proofs.Steps.{step-lengths, step-sides}
-use Rattle.rule.specs.Table.{Accepted, StepAccepted}
 use Rattle.rule.proofs.Memory.{taken-step}
 use Rattle.panbuckle.specs.Inner.{held, Begun}
-use Rattle.panbuckle.specs.Contracts.{StepDone}
 use Rattle.panbuckle.proofs.Scan.{held-length}
 
 -- a working array that holds n accepted points
 pub record Holds (work : List ℤ) (n : ℕ) : Type 0 where
-  pub few : n ≤ 4096
+  pub few : n ≤ mostPoints
   pub working : 2 * n ≤ length work
   pub points : Accepted (held n work)
 

@@ -10,12 +10,11 @@ use lib.IntN.{ℤ}
 use lib.Dec.{ltb}
 use borrow.Author.Tests.{lt-ltb, le-ltb, ltb-true, ltb-false}
 use Rattle.plane.specs.declared.Point.{Point}
-use Rattle.plane.specs.Words.{origin, pointsOf, flatPoints}
+use Rattle.plane.specs.Words.{origin, pointsOf, flatPoints, pointAt}
 use Rattle.plane.proofs.Bools.{cond-case}
 use Rattle.plane.proofs.Arrays.{twice-suc}
 use Rattle.plane.proofs.Places.{set-last}
 use Rattle.rule.specs.Rule.{placeOf, remove, add, toggle}
-use Rattle.rule.specs.Table.{pointAt}
 use Rattle.rule.specs.Answers.{workOf}
 use Rattle.rule.proofs.Toggle.{toggle-at, toggle-length}
 use Rattle.rule.proofs.Memory.{work-length, work-points, work-held, work-origin, work-again}

@@ -1,4 +1,4 @@
--- What the private functions speak of. No caller needs these definitions: the promises are in Contracts.
+-- What the private functions speak of. No caller needs these definitions: the promises are in the crate `rule`.
 use Prim.Native.Nat.{ℕ, _+_, _*_, _≤_}
 use mathlib.Core.Path.{_≡_}
 use mathlib.Core.Bool.{Bool, true, false, cond, _&&_}
@@ -11,7 +11,7 @@ use Rattle.plane.specs.declared.Point.{Point}
 use Rattle.plane.specs.Lists.{count, odd}
 use Rattle.plane.specs.Words.{same, pointsOf}
 use Rattle.rule.specs.Rule.{pickK, pickL, rightOf, toggle}
-use Rattle.rule.specs.Table.{StepAccepted}
+use Rattle.rule.specs.Answers.{StepAccepted}
 use Rattle.panbuckle.specs.declared.Seek.{Seek}
 use Rattle.panbuckle.specs.declared.Seek.the-variants.{Any, RightOf, Over}
 

@@ -1,6 +1,6 @@
 // Panbuckle: the corner points of right-angled shapes become disjoint rectangles, and back.
-// The public functions are `forward` and `step`, at the end, and `backward`, passed on from the crate `outline`. What they promise is in
-// specs/Contracts.antt of each; the rule, the refusals and the answers are the definitions of the crate `rule`.
+// The public functions are `forward` and `step`, at the end, and `backward`, passed on from the crate `outline`. What they promise, the
+// rule, the refusals and the answers are the definitions of the crate `rule`.
 ghost use mathlib.Core.Path.{_≡_};
 ghost use mathlib.Core.Bool.{cond, true, false};
 ghost use mathlib.Core.Option.{Option·getD};
@@ -10,19 +10,20 @@ ghost use lib.IntN.{_-ℤ_};
 ghost use lib.Signed.{ltZ};
 ghost use lib.ListN.{length};
 ghost use Prim.Native.Nat.{_+_, _*_, _<_, _≤_};
-ghost use Rattle.plane.specs.Words.{origin, same, before, pointsOf};
+ghost use Rattle.plane.specs.Words.{origin, same, before, pointsOf, pointAt};
 ghost use Rattle.rule.specs.Rule.{firstOf, rightOf, placeOf, pickM, rectOf, toggle, toggleFour};
-ghost use Rattle.rule.specs.Table.{pointAt, verdict, stepChecks, StepAccepted};
-ghost use Rattle.rule.specs.Answers.{workOf};
+ghost use Rattle.rule.specs.Answers.{workOf, stepChecks, StepAccepted, ForwardDone, StepDone};
+ghost use Rattle.rule.specs.Checks.{verdict};
 ghost use Rattle.checks.specs.Screens.{screenOf};
 ghost use Rattle.panbuckle.specs.Inner.{held, put, cross, overWidth, sought, Begun, beside, IsHighest, Toggled, OddBeside, Between, most};
-ghost use Rattle.panbuckle.specs.Contracts.{ForwardDone, StepDone};
 use checks::Screen;
 use checks::check_points;
-pub use outline::MOST_RECTS;
 pub use outline::backward;
+pub use plane::MOST_POINTS;
+pub use plane::MOST_RECTS;
 pub use plane::Point;
 pub use plane::Rect;
+use plane::point_at;
 pub use rule::BackwardAnswer;
 pub use rule::COLUMN;
 pub use rule::DONE;
@@ -38,9 +39,6 @@ pub use rule::ROW;
 pub use rule::StepAnswer;
 pub use rule::WORK;
 use sweep::sweep_points;
-
-// The most points that forward and a step take.
-pub const MOST_POINTS: usize = 4096;
 
 // ---- Points
 
@@ -78,16 +76,6 @@ fn zero() -> Point
 }
 
 // ---- Points in an array
-
-fn point_at(a: &[i32], i: usize) -> Point
-    requires { ⌜ 2 * i + 1 < length (now a) ⌝ }
-    ensures { λ r. ⌜ r ≡ pointAt (pointsOf (now (a .entry))) i ⌝ }
-{
-    Point {
-        x: a[2 * i],
-        y: a[2 * i + 1],
-    }
-}
 
 fn put_point(a: &mut [i32], i: usize, p: Point)
     requires { ⌜ 2 * i + 1 < length (now a) ⌝ }

@@ -6,9 +6,7 @@ use lib.IntN.{ℤ}
 use Rattle.rule.specs.declared.ForwardAnswer.{ForwardAnswer}
 use Rattle.rule.specs.declared.BackwardAnswer.{BackwardAnswer}
 use Rattle.rule.specs.declared.StepAnswer.{StepAnswer}
-use Rattle.rule.specs.Answers.{stepNumber}
-use Rattle.outline.specs.Contracts.{BackwardDone}
-use Rattle.panbuckle.specs.Contracts.{ForwardDone, StepDone}
+use Rattle.rule.specs.Answers.{stepNumber, BackwardDone, ForwardDone, StepDone}
 use Rattle.panbuckle_c.specs.Face.{forwardNumbers, backwardNumbers, stepNumbers, rectNumbers, ForwardCalled, BackwardCalled, StepCalled}
 
 pub forward-called : {a work out : List ℤ} {s : ForwardAnswer} {work-after out-after : List ℤ} {numbers : List ℕ} → ForwardDone a work out s work-after out-after → numbers ≡ forwardNumbers s → ForwardCalled a work out (s .answer) work-after out-after numbers

@@ -11,3 +11,4 @@ pub mod Cells
 pub mod Grid
 pub mod Arrays
 pub mod Places
+pub mod Outcomes

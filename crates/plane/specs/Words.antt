@@ -2,6 +2,7 @@
 use Prim.Native.Nat.{ℕ, _+_, _*_}
 use mathlib.Core.Bool.{Bool, true, false, cond, _&&_, _||_}
 use mathlib.Core.List.{List, [], _∷_}
+use lib.ListN.{getD}
 use lib.IntN.{ℤ, pos, negsuc, natAbs, _+ℤ_}
 use lib.Signed.{leZ, ltZ}
 use lib.Dec.{eqb}
@@ -32,6 +33,10 @@ inRange z = leZ lowEnd z && leZ z highEnd
 
 -- ---- Points
 
+-- the most points that forward and a step take
+abbrev pub mostPoints : ℕ
+mostPoints = 4096
+
 -- the point (0, 0)
 abbrev pub origin : Point
 origin = record { x = pos 0; y = pos 0 }
@@ -41,6 +46,10 @@ unfoldable pub pointsOf : List ℤ → List Point
 pointsOf [] = []
 pointsOf (x ∷ []) = []
 pointsOf (x ∷ y ∷ rest) = record { x = x; y = y } ∷ pointsOf rest
+
+-- the point at a place, and (0, 0) where there is none
+abbrev pub pointAt : List Point → ℕ → Point
+pointAt ps i = getD ps i origin
 
 -- points as an array
 unfoldable pub flatPoints : List Point → List ℤ
@@ -89,6 +98,14 @@ inOrder (p ∷ ps) = insert p (inOrder ps)
 
 -- ---- Rectangles
 
+-- the most rectangles that backward takes
+abbrev pub mostRects : ℕ
+mostRects = 16384
+
+-- how many numbers of an array a rectangle has
+abbrev pub rectSize : ℕ
+rectSize = 4
+
 -- the rectangles of an array: X, Y, W, H, rectangle after rectangle
 unfoldable pub rectsOf : List ℤ → List Rect
 rectsOf [] = []
@@ -96,6 +113,10 @@ rectsOf (x ∷ []) = []
 rectsOf (x ∷ y ∷ []) = []
 rectsOf (x ∷ y ∷ w ∷ []) = []
 rectsOf (x ∷ y ∷ w ∷ h ∷ rest) = record { x = x; y = y; w = w; h = h } ∷ rectsOf rest
+
+-- the rectangle at a place, and zeros where there is none
+abbrev pub rectAt : List Rect → ℕ → Rect
+rectAt rs i = getD rs i (record { x = pos 0; y = pos 0; w = pos 0; h = pos 0 })
 
 -- rectangles as an array
 unfoldable pub flatRects : List Rect → List ℤ

@@ -8,9 +8,9 @@ use mathlib.Core.Option.{Option, none, some}
 use lib.ListN.{length}
 use lib.IntN.{ℤ}
 use lib.Dec.{ltb}
-use Rattle.plane.specs.Words.{flatPoints}
-use Rattle.rule.specs.Table.{numberOf, placeGiven, Verdict, accepted, refused, orLater, verdict}
+use Rattle.plane.specs.Words.{flatPoints, mostPoints}
 use Rattle.rule.specs.Answers.{written}
+use Rattle.rule.specs.Checks.{rowNumber, placeGiven, Verdict, accepted, refused, orLater, verdict}
 use Rattle.reading.specs.declared.ReadAnswer.{ReadAnswer}
 use Rattle.reading.specs.declared.LinesChecked.the-variants.{AllGood, BadAt}
 use Rattle.reading.specs.Lines.{linesOf}
@@ -23,8 +23,8 @@ one-place k p true rest = refl
 one-place k p false rest = refl
 
 -- each check refuses, or passes to the next
-pub read-verdict : (t : List ℕ) (out : ℕ) → let n = length (linesOf t) in verdict (readChecks t out) ≡ cond (ltb 65_536 (length t)) (refused 2 0) (orLater 11 (placeGiven (linesCheck t)) (cond (ltb 4096 n) (refused 2 0) (cond (ltb (out / 2) n) (refused 8 n) accepted)))
-unfolding readChecks textChecks verdict numberOf placeGiven
+pub read-verdict : (t : List ℕ) (out : ℕ) → let n = length (linesOf t) in verdict (readChecks t out) ≡ cond (ltb 65_536 (length t)) (refused 2 0) (orLater 11 (placeGiven (linesCheck t)) (cond (ltb mostPoints n) (refused 2 0) (cond (ltb (out / 2) n) (refused 8 n) accepted)))
+unfolding readChecks textChecks verdict rowNumber placeGiven
 read-verdict t out = simp one-place
 
 -- what the code says of the lines tells where the first bad one is

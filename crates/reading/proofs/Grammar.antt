@@ -14,24 +14,24 @@ use Rattle.plane.specs.Lists.{any}
 use Rattle.plane.proofs.Bools.{by, and-parts, or-parts}
 use Rattle.numerals.specs.Numerals.{minus, isDigit, areDigits, valueOf, asPlain, asNegative, numberOf}
 use Rattle.numerals.proofs.Reading.{digit-range, value-undigits}
-use Rattle.reading.specs.Lines.{space, before, after, Line, pointFrom, pointOf, GoodLine, isBad}
+use Rattle.reading.specs.Lines.{space, beforeFirst, afterFirst, Line, pointFrom, linePoint, GoodLine, isBad}
 use Rattle.reading.proofs.Lines.{good-ended}
 
 -- ---- A byte that parts bytes
 
 -- where something comes after the first byte c, that byte parts the bytes
-parts : (c : ℕ) (t : List ℕ) → ¬ (after c t ≡ []) → t ≡ before c t ++ (c ∷ after c t)
-unfolding before after
+parts : (c : ℕ) (t : List ℕ) → ¬ (afterFirst c t ≡ []) → t ≡ beforeFirst c t ++ (c ∷ afterFirst c t)
+unfolding beforeFirst afterFirst
 parts c [] n = absurd (n refl)
 parts c (b ∷ bs) n = go (parts c bs) (eqb b c) refl n
   where
-    go : (¬ (after c bs ≡ []) → bs ≡ before c bs ++ (c ∷ after c bs)) → (u : Bool) → eqb b c ≡ u → ¬ (cond u bs (after c bs) ≡ []) → b ∷ bs ≡ cond u [] (b ∷ before c bs) ++ (c ∷ cond u bs (after c bs))
+    go : (¬ (afterFirst c bs ≡ []) → bs ≡ beforeFirst c bs ++ (c ∷ afterFirst c bs)) → (u : Bool) → eqb b c ≡ u → ¬ (cond u bs (afterFirst c bs) ≡ []) → b ∷ bs ≡ cond u [] (b ∷ beforeFirst c bs) ++ (c ∷ cond u bs (afterFirst c bs))
     go ih true e n = rw (eqb-true b c e)
     go ih false e n = ap (λ (l : List ℕ). b ∷ l) (ih n)
 
 -- bytes without it are parted there
-parted : (c : ℕ) (xs ys : List ℕ) → any (λ b. eqb b c) xs ≡ false → (before c (xs ++ (c ∷ ys)) ≡ xs) × (after c (xs ++ (c ∷ ys)) ≡ ys)
-unfolding before after any
+parted : (c : ℕ) (xs ys : List ℕ) → any (λ b. eqb b c) xs ≡ false → (beforeFirst c (xs ++ (c ∷ ys)) ≡ xs) × (afterFirst c (xs ++ (c ∷ ys)) ≡ ys)
+unfolding beforeFirst afterFirst any
 parted c [] ys h = rw (eq-eqb c c refl) (refl, refl)
 parted c (b ∷ xs) ys h =
     let k = or-parts (eqb b c) (any (λ a. eqb a c) xs) h in
@@ -72,20 +72,20 @@ from-both (some a) (some b) {p} e =
     (ap (λ (q : Point). some (q .x)) k, ap (λ (q : Point). some (q .y)) k)
 
 -- a line's point is (x, y) exactly when the line is x, one space, y, newline
-pub good-exactly : (l : Line) (x y : ℤ) → (pointOf l ≡ some (record { x = x; y = y })) ↔ GoodLine l x y
-unfolding pointOf numberOf
+pub good-exactly : (l : Line) (x y : ℤ) → (linePoint l ≡ some (record { x = x; y = y })) ↔ GoodLine l x y
+unfolding linePoint numberOf
 good-exactly l x y = (go, back)
   where
-    go : pointOf l ≡ some (record { x = x; y = y }) → GoodLine l x y
+    go : linePoint l ≡ some (record { x = x; y = y }) → GoodLine l x y
     go e =
         let d = good-ended l e in
-        let k = from-both (numberOf (before space (l .bytes))) (numberOf (after space (l .bytes))) (rw d at e) in
-        record { xs = before space (l .bytes); ys = after space (l .bytes); bytes = parts space (l .bytes) (λ f. none-ne-some _ (rw f at (k .1))); ended = d; first = k .0; second = k .1 }
+        let k = from-both (numberOf (beforeFirst space (l .bytes))) (numberOf (afterFirst space (l .bytes))) (rw d at e) in
+        record { xs = beforeFirst space (l .bytes); ys = afterFirst space (l .bytes); bytes = parts space (l .bytes) (λ f. none-ne-some _ (rw f at (k .1))); ended = d; first = k .0; second = k .1 }
 
-    back : GoodLine l x y → pointOf l ≡ some (record { x = x; y = y })
+    back : GoodLine l x y → linePoint l ≡ some (record { x = x; y = y })
     back g = let p = parted space (g .xs) (g .ys) (number-no-space (g .xs) (g .first)) in rw (g .ended, g .bytes, p .0, p .1, g .first, g .second)
 
 -- a line that no newline ends is bad
 pub unended-bad : (l : Line) → l .ended ≡ false → isBad l ≡ true
-unfolding isBad pointOf
+unfolding isBad linePoint
 unended-bad l e = rw e

@@ -8,10 +8,11 @@ use lib.ListN.{length, take}
 use lib.Seq.{take-append-seam}
 use lib.IntN.{ℤ}
 use borrow.Author.Tests.{ltb-false}
-use Rattle.plane.specs.Words.{flatPoints}
+use Rattle.plane.specs.Words.{flatPoints, mostPoints}
 use Rattle.plane.proofs.Arrays.{length-flat-points}
-use Rattle.rule.specs.Table.{Check, numberOf, ROOM, Verdict, accepted, refused, verdict}
 use Rattle.rule.specs.Answers.{written}
+use Rattle.rule.specs.Checks.{Check, rowNumber, Verdict, accepted, refused, verdict}
+use Rattle.rule.specs.Rows.{ROOM}
 use Rattle.rule.proofs.Verdicts.{accepted-clear, clear-append, refused-append, numberIn, answer-accepts}
 use Rattle.rule.proofs.Memory.{written-length}
 use Rattle.reading.specs.declared.ReadAnswer.{ReadAnswer}
@@ -27,9 +28,9 @@ unfolding textChecks
 lines-are-points t e = points-all (linesOf t) (accepted-clear (textChecks t) .0 e .1 .0)
 
 -- and they are not too many
-pub lines-few : (t : List ℕ) → verdict (textChecks t) ≡ accepted → length (linesOf t) ≤ 4096
+pub lines-few : (t : List ℕ) → verdict (textChecks t) ≡ accepted → length (linesOf t) ≤ mostPoints
 unfolding textChecks
-lines-few t e = ltb-false 4096 (length (linesOf t)) (accepted-clear (textChecks t) .0 e .1 .1 .0)
+lines-few t e = ltb-false mostPoints (length (linesOf t)) (accepted-clear (textChecks t) .0 e .1 .1 .0)
 
 module _ (t : List ℕ) (out : ℕ) where
   -- with an output the checks accept exactly the accepted texts whose points have room
@@ -43,7 +44,7 @@ module _ (t : List ℕ) (out : ℕ) where
 
   -- the reader answers 0 exactly when they accept
   answers-0 : (readAnswer t out .answer ≡ 0) ↔ (verdict (readChecks t out) ≡ accepted)
-  unfolding readAnswer readChecks textChecks numberOf
+  unfolding readAnswer readChecks textChecks rowNumber
   answers-0 = rw (number (verdict (readChecks t out))) (answer-accepts (readChecks t out) (omega arith, (omega arith, (omega arith, (omega arith, tt)))))
     where
       number : (v : Verdict) → readSays v (pointsRead t) .answer ≡ numberIn v
@@ -57,7 +58,7 @@ pub record AllRead (t : List ℕ) (r : ReadAnswer) (out-after : List ℤ) : Type
   pub accepts : verdict (textChecks t) ≡ accepted
   pub place : r .place ≡ 0
   pub count : r .count ≡ length (pointsRead t)
-  pub few : r .count ≤ 4096
+  pub few : r .count ≤ mostPoints
   pub fits : 2 * r .count ≤ length out-after
   pub numbers : take (2 * r .count) out-after ≡ flatPoints (pointsRead t)
 

@@ -5,7 +5,8 @@ use mathlib.Core.Option.{Option, none, some}
 use lib.IntN.{ℤ}
 use lib.ListN.{length, drop}
 use Rattle.plane.specs.declared.Point.{Point}
-use Rattle.rule.specs.Table.{Check, TEXT}
+use Rattle.rule.specs.Checks.{Check}
+use Rattle.rule.specs.Rows.{TEXT}
 use Rattle.numerals.specs.declared.Numeral.{Numeral}
 use Rattle.numerals.specs.declared.Numeral.the-variants.{Number, Bad}
 use Rattle.reading.specs.declared.Parsed.{Parsed}
@@ -14,7 +15,7 @@ use Rattle.reading.specs.declared.LineRead.{LineRead}
 use Rattle.reading.specs.declared.LineRead.the-variants.{Read, Unread}
 use Rattle.reading.specs.declared.LinesChecked.{LinesChecked}
 use Rattle.reading.specs.declared.LinesChecked.the-variants.{AllGood, BadAt}
-use Rattle.reading.specs.Lines.{newline, before, linesOf, lineAt, pointOf, isBad}
+use Rattle.reading.specs.Lines.{newline, beforeFirst, linesOf, lineAt, linePoint, isBad}
 
 -- the number that bytes were read as
 abbrev pub numberIn : Numeral → Option ℤ
@@ -33,11 +34,11 @@ lineSays (some p) next = Read p next
 
 -- the place after the line that begins at a place of a text
 abbrev pub nextLine : List ℕ → ℕ → ℕ
-nextLine t at = at + suc (length (before newline (drop at t)))
+nextLine t at = at + suc (length (beforeFirst newline (drop at t)))
 
 -- the line that begins at a place of a text
 abbrev pub lineFrom : List ℕ → ℕ → LineRead
-lineFrom t at = lineSays (pointOf (lineAt (linesOf (drop at t)) 0)) (nextLine t at)
+lineFrom t at = lineSays (linePoint (lineAt (linesOf (drop at t)) 0)) (nextLine t at)
 
 -- the check of a text's lines
 abbrev pub linesCheck : List ℕ → Check

@@ -21,14 +21,14 @@ space = 32
 -- ---- Bytes
 
 -- the bytes before the first byte c; all of them, if there is none
-unfoldable pub before : (c : ℕ) → List ℕ → List ℕ
-before c [] = []
-before c (b ∷ bs) = cond (eqb b c) [] (b ∷ before c bs)
+unfoldable pub beforeFirst : (c : ℕ) → List ℕ → List ℕ
+beforeFirst c [] = []
+beforeFirst c (b ∷ bs) = cond (eqb b c) [] (b ∷ beforeFirst c bs)
 
 -- the bytes after the first byte c; none, if there is none
-unfoldable pub after : (c : ℕ) → List ℕ → List ℕ
-after c [] = []
-after c (b ∷ bs) = cond (eqb b c) bs (after c bs)
+unfoldable pub afterFirst : (c : ℕ) → List ℕ → List ℕ
+afterFirst c [] = []
+afterFirst c (b ∷ bs) = cond (eqb b c) bs (afterFirst c bs)
 
 -- ---- Lines
 
@@ -60,8 +60,8 @@ pointFrom (some x) none = none
 pointFrom (some x) (some y) = some (record { x = x; y = y })
 
 -- a good line is x, one space, y, newline
-unfoldable pub pointOf : Line → Option Point
-pointOf l = cond (l .ended) (pointFrom (numberOf (before space (l .bytes))) (numberOf (after space (l .bytes)))) none
+unfoldable pub linePoint : Line → Option Point
+linePoint l = cond (l .ended) (pointFrom (numberOf (beforeFirst space (l .bytes))) (numberOf (afterFirst space (l .bytes)))) none
 
 -- the same as document 01 says it: x, one space, y, newline
 pub record GoodLine (l : Line) (x y : ℤ) : Type 0 where
@@ -79,7 +79,7 @@ isNone (some a) = false
 
 -- a bad line
 unfoldable pub isBad : Line → Bool
-isBad l = isNone (pointOf l)
+isBad l = isNone (linePoint l)
 
 -- a line's point before others, if it is good
 abbrev pub withPoint : Option Point → List Point → List Point
@@ -89,4 +89,4 @@ withPoint (some p) ps = p ∷ ps
 -- the points of the good lines
 unfoldable pub pointsIn : List Line → List Point
 pointsIn [] = []
-pointsIn (l ∷ ls) = withPoint (pointOf l) (pointsIn ls)
+pointsIn (l ∷ ls) = withPoint (linePoint l) (pointsIn ls)

@@ -5,9 +5,10 @@ use mathlib.Core.List.{List, [], _∷_, _++_}
 use lib.ListN.{length}
 use lib.IntN.{ℤ}
 use Rattle.plane.specs.declared.Point.{Point}
-use Rattle.plane.specs.Words.{flatPoints}
-use Rattle.rule.specs.Table.{Check, MANY, TEXT, ROOM, Verdict, accepted, refused, verdict}
+use Rattle.plane.specs.Words.{flatPoints, mostPoints}
 use Rattle.rule.specs.Answers.{written}
+use Rattle.rule.specs.Checks.{Check, Verdict, accepted, refused, verdict}
+use Rattle.rule.specs.Rows.{MANY, TEXT, ROOM}
 use Rattle.reading.specs.declared.ReadAnswer.{ReadAnswer}
 use Rattle.reading.specs.Lines.{linesOf, lineAt, isBad, pointsIn}
 
@@ -17,7 +18,7 @@ pointsRead t = pointsIn (linesOf t)
 
 -- MANY for bytes over 65,536, TEXT, MANY for lines over 4,096
 unfoldable pub textChecks : List ℕ → List Check
-textChecks t = MANY 65_536 (length t) ∷ TEXT (length (linesOf t)) (λ i. isBad (lineAt (linesOf t) i)) ∷ MANY 4096 (length (linesOf t)) ∷ []
+textChecks t = MANY 65_536 (length t) ∷ TEXT (length (linesOf t)) (λ i. isBad (lineAt (linesOf t) i)) ∷ MANY mostPoints (length (linesOf t)) ∷ []
 
 -- the same, and then ROOM: a point for each line, and an output's length
 unfoldable pub readChecks : (t : List ℕ) (out : ℕ) → List Check

@@ -4,14 +4,15 @@ ghost use mathlib.Core.Path.{_≡_};
 ghost use mathlib.Core.Option.{none};
 ghost use lib.ListN.{length};
 ghost use Rattle.plane.specs.Words.{flatPoints};
-ghost use Rattle.rule.specs.Table.{accepted, placeGiven};
 ghost use Rattle.rule.specs.Answers.{written};
+ghost use Rattle.rule.specs.Checks.{accepted, placeGiven};
 ghost use Rattle.numerals.specs.Numerals.{numberOf};
-ghost use Rattle.reading.specs.Lines.{before, after, space, pointFrom, linesOf};
+ghost use Rattle.reading.specs.Lines.{beforeFirst, afterFirst, space, pointFrom, linesOf};
 ghost use Rattle.reading.specs.Reading.{pointsRead, ReadDone};
 ghost use Rattle.reading.specs.Inner.{numberIn, parsed, lineFrom, linesCheck, linesSay};
 use numerals::Numeral;
 use numerals::number_of;
+use plane::MOST_POINTS;
 use plane::Point;
 use rule::DONE;
 use rule::MANY;
@@ -22,7 +23,7 @@ use rule::TEXT;
 pub const MOST_BYTES: usize = 65536;
 
 // The most lines of a text.
-pub const MOST_LINES: usize = 4096;
+pub const MOST_LINES: usize = MOST_POINTS;
 
 const NEWLINE: u8 = 10;
 
@@ -51,7 +52,7 @@ enum LineRead {
 
 // The place of the first byte c, and the length where there is none.
 fn find(bytes: &[u8], c: u8) -> usize
-    ensures { λ r. ⌜ (r ≡ length (before c (now (bytes .entry)))) × (r ≤ length (now (bytes .entry))) ⌝ }
+    ensures { λ r. ⌜ (r ≡ length (beforeFirst c (now (bytes .entry)))) × (r ≤ length (now (bytes .entry))) ⌝ }
 {
     let mut i = 0;
     while i < bytes.len() {
@@ -80,7 +81,7 @@ fn paired(x: Numeral, y: Numeral) -> Parsed
 
 // The point of a line: x, one space, y.
 fn parse(line: &[u8]) -> Parsed
-    ensures { λ r. ⌜ r ≡ parsed (pointFrom (numberOf (before space (now (line .entry)))) (numberOf (after space (now (line .entry))))) ⌝ }
+    ensures { λ r. ⌜ r ≡ parsed (pointFrom (numberOf (beforeFirst space (now (line .entry)))) (numberOf (afterFirst space (now (line .entry))))) ⌝ }
 {
     let gap = find(line, SPACE);
     if gap == line.len() {

@@ -15,7 +15,7 @@ use Rattle.plane.proofs.Bools.{or-parts}
 use Rattle.plane.proofs.Sums.{count-find}
 use Rattle.plane.proofs.Grid.{cells-areas, cells-most, held-in-range}
 use Rattle.rule.specs.Rule.{ruleList}
-use Rattle.rule.specs.Table.{Accepted}
+use Rattle.rule.specs.Rows.{Accepted}
 use Rattle.rule.proofs.Cover.{rule-covers}
 use Rattle.rule.proofs.Rising.{rule-rects}
 

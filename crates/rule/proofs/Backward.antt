@@ -20,7 +20,7 @@ use Rattle.plane.proofs.Alike.{Alike, points-alike, alike-marks}
 use Rattle.plane.proofs.Rising.{rising-once, rising-unique, inOrder-rising, inOrder-has, inOrder-few}
 use Rattle.plane.proofs.Cells.{corners-under}
 use Rattle.rule.specs.Back.{isCorner, corners, oddCorner, backList}
-use Rattle.rule.specs.Table.{Accepted, AcceptedRects}
+use Rattle.rule.specs.Rows.{Accepted, AcceptedRects}
 
 -- ---- The answer is the one rising list of the odd corners
 

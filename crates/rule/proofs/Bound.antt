@@ -19,7 +19,7 @@ use Rattle.plane.proofs.Bools.{even-half, isOdd}
 use Rattle.plane.proofs.Sums.{any-find, any-in, count-find, count-less, count-length, sum-most, sum-length}
 use Rattle.plane.proofs.Parity.{odd-sum, odd-cong}
 use Rattle.rule.specs.Rule.{toggleFour, step, run, leftAfter, enough, ruleList, different, rowsOf, rowCount, Picked}
-use Rattle.rule.specs.Table.{Accepted}
+use Rattle.rule.specs.Rows.{Accepted}
 use Rattle.rule.proofs.Picks.{level, higher, picks}
 use Rattle.rule.proofs.Inside.{even-by-rows}
 use Rattle.rule.proofs.Steps.{sum-step, step-all, step-keeps-accepted, Steps, stay, more, steps, steps-accepted, spent}

@@ -14,7 +14,7 @@ use Rattle.plane.proofs.Bools.{and-parts, and-make, or-right}
 use Rattle.plane.proofs.Sums.{any-find, any-in}
 use Rattle.plane.proofs.Alike.{Alike, alike-sym, alike-in, marks-alike}
 use Rattle.rule.specs.Rule.{over, leftOf, stops, stopper, toggleFour, ruleList, IsFirst, Picked}
-use Rattle.rule.specs.Table.{Accepted}
+use Rattle.rule.specs.Rows.{Accepted}
 use Rattle.rule.proofs.Toggle.{odd-four}
 use Rattle.rule.proofs.Picks.{first-unique}
 use Rattle.rule.proofs.Steps.{four-accepted, Steps, stay, more}

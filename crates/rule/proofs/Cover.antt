@@ -10,7 +10,7 @@ use Rattle.plane.specs.declared.Rect.{Rect}
 use Rattle.plane.specs.Lists.{bit, count, odd}
 use Rattle.plane.specs.Words.{marks, holds}
 use Rattle.rule.specs.Rule.{rectOf, ruleList}
-use Rattle.rule.specs.Table.{Accepted}
+use Rattle.rule.specs.Rows.{Accepted}
 use Rattle.rule.proofs.Inside.{marks-four, inside}
 use Rattle.rule.proofs.Steps.{Steps, stay, more}
 use Rattle.rule.proofs.Bound.{rule-steps}

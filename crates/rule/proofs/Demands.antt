@@ -9,13 +9,14 @@ use lib.ListN.{length, drop}
 use lib.IntN.{ℤ}
 use Rattle.plane.specs.declared.Point.{Point}
 use Rattle.plane.specs.Lists.{bit, count, odd}
-use Rattle.plane.specs.Words.{marks, holds, cells, pointsOf, flatPoints, rectsOf, flatRects, inOrder}
+use Rattle.plane.specs.Words.{marks, holds, cells, pointsOf, flatPoints, rectsOf, flatRects, inOrder, rectSize, mostPoints, mostRects}
 use Rattle.plane.proofs.Arrays.{length-points, points-flat, length-flat-points, rects-flat, length-flat-rects}
 use Rattle.plane.proofs.Rising.{inOrder-length}
 use Rattle.rule.specs.Rule.{ruleList}
 use Rattle.rule.specs.Back.{backList}
-use Rattle.rule.specs.Table.{Verdict, accepted, refused, verdict, forwardChecks, backwardChecks, Accepted, AcceptedRects, ForwardAccepted}
-use Rattle.rule.specs.Answers.{forwardSays, forwardAnswer, backwardAnswer, backwardOut}
+use Rattle.rule.specs.Answers.{forwardSays, forwardAnswer, backwardAnswer, backwardOut, forwardChecks, backwardChecks, ForwardAccepted, forwardList, forwardSums}
+use Rattle.rule.specs.Checks.{Verdict, accepted, refused, verdict}
+use Rattle.rule.specs.Rows.{Accepted, AcceptedRects}
 use Rattle.rule.proofs.Refusals.{forward-accepts-exactly, forward-accepted, backward-accepts-exactly, backward-accepted}
 use Rattle.rule.proofs.Cover.{rule-covers}
 use Rattle.rule.proofs.Canon.{rule-canon}
@@ -36,7 +37,7 @@ module _ (a : List ℤ) (work out : ℕ) (done : forwardAnswer a work out .answe
   array-accepted = forward-accepted a work out .0 forward-verdict .points
 
   -- demand 3, first half: each unit cell is in one rectangle of the list if the points mark it, in none otherwise
-  pub forward-covers : (x y : ℤ) → count (holds x y) (ruleList (pointsOf a)) ≡ bit (marks (pointsOf a) x y)
+  pub forward-covers : (x y : ℤ) → count (holds x y) (forwardList a) ≡ bit (marks (pointsOf a) x y)
   forward-covers = rule-covers (pointsOf a) array-accepted
 
   -- the area is the number of marked cells
@@ -45,7 +46,7 @@ module _ (a : List ℤ) (work out : ℕ) (done : forwardAnswer a work out .answe
   forward-area = rw forward-verdict (rule-area (pointsOf a) array-accepted)
 
 -- demand 3, second half: two arrays that forward accepts have equal lists exactly when they mark the same cells
-pub forward-canon : (a b : List ℤ) (wa oa wb ob : ℕ) → forwardAnswer a wa oa .answer ≡ 0 → forwardAnswer b wb ob .answer ≡ 0 → (ruleList (pointsOf a) ≡ ruleList (pointsOf b)) ↔ ((x y : ℤ) → marks (pointsOf a) x y ≡ marks (pointsOf b) x y)
+pub forward-canon : (a b : List ℤ) (wa oa wb ob : ℕ) → forwardAnswer a wa oa .answer ≡ 0 → forwardAnswer b wb ob .answer ≡ 0 → (forwardList a ≡ forwardList b) ↔ ((x y : ℤ) → marks (pointsOf a) x y ≡ marks (pointsOf b) x y)
 forward-canon a b wa oa wb ob da db = rule-canon (pointsOf a) (pointsOf b) (array-accepted a wa oa da) (array-accepted b wb ob db)
 
 -- whatever is given, the area is at most 4·10^18 and the edge fits 64 bits
@@ -53,7 +54,7 @@ pub forward-sums-fit : (a : List ℤ) (work out : ℕ) → (forwardAnswer a work
 unfolding forwardAnswer
 forward-sums-fit a work out = go (verdict (forwardChecks a work out)) (λ e. forward-accepted a work out .0 e)
   where
-    go : (v : Verdict) → (v ≡ accepted → ForwardAccepted a work out) → (forwardSays v (ruleList (pointsOf a)) .area ≤ 4_000_000_000_000_000_000) × (forwardSays v (ruleList (pointsOf a)) .edge < 2 ^ 64)
+    go : (v : Verdict) → (v ≡ accepted → ForwardAccepted a work out) → (forwardSays v (forwardSums a) .area ≤ 4_000_000_000_000_000_000) × (forwardSays v (forwardSums a) .edge < 2 ^ 64)
     go accepted h = (rule-area-most (pointsOf a) (h refl .points), rule-edge-fits (pointsOf a) (h refl .points))
     go (refused k p) h = (omega arith, omega arith)
 
@@ -64,14 +65,14 @@ list-back : (ps : List Point) → Accepted ps → backList (rectsOf (flatRects (
 list-back ps acc = ap backList (rects-flat (ruleList ps)) ∙ forward-backward ps acc
 
 -- backward accepts a list of forward's, where it has at most 16,384 rectangles and there is room for the points
-list-accepted : (ps : List Point) → Accepted ps → (out : ℕ) → length (ruleList ps) ≤ 16384 → length ps ≤ out / 2 → verdict (backwardChecks (flatRects (ruleList ps)) out) ≡ accepted
+list-accepted : (ps : List Point) → Accepted ps → (out : ℕ) → length (ruleList ps) ≤ mostRects → length ps ≤ out / 2 → verdict (backwardChecks (flatRects (ruleList ps)) out) ≡ accepted
 list-accepted ps acc out few room =
     let rs = ruleList ps in
     let four = length-flat-rects rs in
     backward-accepted (flatRects rs) out .1 (record { even = omega arith; few = omega arith; rects = rw (rects-flat rs) (rule-rects ps acc); room = rw (list-back ps acc) (omega (arith, inOrder-length ps (acc .once))) })
 
 -- where the list has at most 16,384 rectangles and there is room, it gives the input's points in order of y, then x
-pub forward-then-backward : (a : List ℤ) (work out : ℕ) (points : List ℤ) → forwardAnswer a work out .answer ≡ 0 → length (ruleList (pointsOf a)) ≤ 16384 → length a ≤ length points → let list = flatRects (ruleList (pointsOf a)) in (backwardAnswer list (length points) ≡ record { answer = 0; place = 0; count = length a / 2 }) × (backwardOut list points ≡ flatPoints (inOrder (pointsOf a)) ++ drop (length a) points)
+pub forward-then-backward : (a : List ℤ) (work out : ℕ) (points : List ℤ) → forwardAnswer a work out .answer ≡ 0 → length (forwardList a) ≤ mostRects → length a ≤ length points → let list = flatRects (forwardList a) in (backwardAnswer list (length points) ≡ record { answer = 0; place = 0; count = length a / 2 }) × (backwardOut list points ≡ flatPoints (inOrder (pointsOf a)) ++ drop (length a) points)
 unfolding backwardAnswer backwardOut
 forward-then-backward a work out points done few room =
     let ps = pointsOf a in
@@ -89,12 +90,12 @@ rects-accepted : (r : List ℤ) (points : ℕ) → backwardAnswer r points .answ
 rects-accepted r points done = backward-accepted r points .0 (backward-accepts-exactly r points .0 done) .rects
 
 -- forward accepts what backward answers, where it has at most 4,096 points and there is room
-pub backward-then-forward : (r : List ℤ) (points work out : ℕ) → backwardAnswer r points .answer ≡ 0 → let ps = backList (rectsOf r) in length ps ≤ 4096 → 2 * length ps ≤ work → length (ruleList ps) ≤ out / 4 → forwardAnswer (flatPoints ps) work out .answer ≡ 0
+pub backward-then-forward : (r : List ℤ) (points work out : ℕ) → backwardAnswer r points .answer ≡ 0 → let ps = backList (rectsOf r) in length ps ≤ mostPoints → 2 * length ps ≤ work → length (ruleList ps) ≤ out / rectSize → forwardAnswer (flatPoints ps) work out .answer ≡ 0
 backward-then-forward r points work out done few working room =
     let ps = backList (rectsOf r) in
     let two = length-flat-points ps in
     forward-accepts-exactly (flatPoints ps) work out .1 (forward-accepted (flatPoints ps) work out .1 (record { even = omega arith; few = omega arith; working = omega arith; points = rw (points-flat ps) (back-accepted (rectsOf r) (rects-accepted r points done)); room = rw (points-flat ps) room }))
 
 -- two rectangle lists that backward accepts have equal forward lists exactly when the same cells lie in an odd number of rectangles of each
-pub two-lists : (r s : List ℤ) (pr ps : ℕ) → backwardAnswer r pr .answer ≡ 0 → backwardAnswer s ps .answer ≡ 0 → (ruleList (pointsOf (flatPoints (backList (rectsOf r)))) ≡ ruleList (pointsOf (flatPoints (backList (rectsOf s))))) ↔ ((x y : ℤ) → odd (holds x y) (rectsOf r) ≡ odd (holds x y) (rectsOf s))
+pub two-lists : (r s : List ℤ) (pr ps : ℕ) → backwardAnswer r pr .answer ≡ 0 → backwardAnswer s ps .answer ≡ 0 → (forwardList (flatPoints (backList (rectsOf r))) ≡ forwardList (flatPoints (backList (rectsOf s)))) ↔ ((x y : ℤ) → odd (holds x y) (rectsOf r) ≡ odd (holds x y) (rectsOf s))
 two-lists r s pr ps dr ds = rw (points-flat (backList (rectsOf r)), points-flat (backList (rectsOf s))) (backward-forward (rectsOf r) (rectsOf s) (rects-accepted r pr dr) (rects-accepted s ps ds))

@@ -14,7 +14,7 @@ use Rattle.plane.proofs.Parity.{odd-cong, odd-split, odd-one, classes-even}
 use Rattle.plane.proofs.Points.{same-is, same-refl, After, above, along}
 use Rattle.plane.proofs.Cells.{corners-under}
 use Rattle.rule.specs.Rule.{over, leftOf, stops, rectOf, toggleFour, Picked}
-use Rattle.rule.specs.Table.{Accepted}
+use Rattle.rule.specs.Rows.{Accepted}
 use Rattle.rule.proofs.Toggle.{odd-four}
 use Rattle.rule.proofs.Picks.{after-k, level, right-of, gap, higher, clear, over-make}
 

@@ -16,10 +16,10 @@ use Rattle.plane.specs.Words.{origin, pointsOf, flatPoints, rectsOf, flatRects}
 use Rattle.plane.proofs.Bools.{cond-case}
 use Rattle.plane.proofs.Arrays.{length-points, points-rest, points-append, flat-append, length-flat-points, length-flat-rects}
 use Rattle.rule.specs.declared.StepAnswer.the-variants.{Rectangle, Refused}
-use Rattle.rule.specs.Rule.{Taken, step, ruleList}
+use Rattle.rule.specs.Rule.{Taken, step}
 use Rattle.rule.specs.Back.{backList}
-use Rattle.rule.specs.Table.{numberOf, placeGiven, Verdict, accepted, refused, verdict, forwardChecks, backwardChecks, stepChecks, StepAccepted}
-use Rattle.rule.specs.Answers.{written, Starts, workOf, forwardSays, forwardAnswer, forwardOut, drained, forwardWork, backwardSays, backwardAnswer, backwardOut, stepSays, stepAnswer, stepLeaves, stepWork, stepNumber, stepPlace, stepValues}
+use Rattle.rule.specs.Answers.{written, Starts, workOf, forwardSays, forwardAnswer, forwardOut, drained, forwardWork, backwardSays, backwardAnswer, backwardOut, stepSays, stepAnswer, stepLeaves, stepWork, stepNumber, stepPlace, stepValues, forwardChecks, backwardChecks, stepChecks, StepAccepted, forwardList, forwardSums}
+use Rattle.rule.specs.Checks.{rowNumber, placeGiven, Verdict, accepted, refused, verdict}
 use Rattle.rule.proofs.Verdicts.{numberIn, placeIn}
 use Rattle.rule.proofs.Refusals.{forward-says, backward-says, step-says, forward-accepts-exactly, forward-accepted, forward-lacks-room, forward-needs, backward-accepts-exactly, backward-accepted, step-accepts-exactly, step-accepted}
 use Rattle.rule.proofs.Steps.{accepted-step}
@@ -129,25 +129,25 @@ module _ (a : List ℤ) (work out : ℕ) where
   unfolding forwardAnswer
   forward-refused-rest n = go (verdict (forwardChecks a work out)) n
     where
-      go : (v : Verdict) → forwardSays v (ruleList (pointsOf a)) .answer ≢ 0 → (forwardSays v (ruleList (pointsOf a)) .count ≡ 0) × (forwardSays v (ruleList (pointsOf a)) .area ≡ 0) × (forwardSays v (ruleList (pointsOf a)) .edge ≡ 0)
+      go : (v : Verdict) → forwardSays v (forwardSums a) .answer ≢ 0 → (forwardSays v (forwardSums a) .count ≡ 0) × (forwardSays v (forwardSums a) .area ≡ 0) × (forwardSays v (forwardSums a) .edge ≡ 0)
       go accepted n = absurd (n refl)
       go (refused k p) n = (refl, refl, refl)
 
 module _ (a : List ℤ) (work : ℕ) (out : List ℤ) where
   -- on 0 the output holds the list at its start and is otherwise unchanged
-  pub forward-writes : forwardAnswer a work (length out) .answer ≡ 0 → Starts (flatRects (ruleList (pointsOf a))) out (forwardOut a work out)
+  pub forward-writes : forwardAnswer a work (length out) .answer ≡ 0 → Starts (flatRects (forwardList a)) out (forwardOut a work out)
   unfolding forwardOut
-  forward-writes e = written-done (verdict (forwardChecks a work (length out))) (flatRects (ruleList (pointsOf a))) out (forward-accepts-exactly a work (length out) .0 e)
+  forward-writes e = written-done (verdict (forwardChecks a work (length out))) (flatRects (forwardList a)) out (forward-accepts-exactly a work (length out) .0 e)
 
   -- on any refusal it is unchanged
   pub forward-refused-out : forwardAnswer a work (length out) .answer ≢ 0 → forwardOut a work out ≡ out
   unfolding forwardOut
-  forward-refused-out n = written-refused (verdict (forwardChecks a work (length out))) (flatRects (ruleList (pointsOf a))) out (λ e. n (forward-says a work (length out) .0 ∙ e))
+  forward-refused-out n = written-refused (verdict (forwardChecks a work (length out))) (flatRects (forwardList a)) out (λ e. n (forward-says a work (length out) .0 ∙ e))
 
   -- its length stays
   pub forward-out-length : length (forwardOut a work out) ≡ length out
   unfolding forwardOut
-  forward-out-length = written-length (verdict (forwardChecks a work (length out))) (flatRects (ruleList (pointsOf a))) out (λ e. let c = forward-accepted a work (length out) .0 e in omega (arith, length-flat-rects (ruleList (pointsOf a)), c .room))
+  forward-out-length = written-length (verdict (forwardChecks a work (length out))) (flatRects (forwardList a)) out (λ e. let c = forward-accepted a work (length out) .0 e in omega (arith, length-flat-rects (forwardList a), c .room))
 
 module _ (a work : List ℤ) (out : ℕ) where
   -- with any refusal but 8 the working array is untouched
@@ -261,7 +261,7 @@ module _ (work : List ℤ) (n : ℕ) where
 
 -- with no points left a step is refused, DRAINED, and the working array is unchanged
 pub drained-step : (work : List ℤ) → (stepAnswer work 0 ≡ Refused 10 0) × (stepWork work 0 ≡ work)
-unfolding stepAnswer stepWork stepChecks verdict placeGiven numberOf
+unfolding stepAnswer stepWork stepChecks verdict placeGiven rowNumber
 drained-step work = rw (le-ltb (length work) 0 (omega arith)) (refl, refl)
 
 -- an accepted step gives its rectangle and the number of points that it leaves in the working array

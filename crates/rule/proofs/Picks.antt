@@ -18,7 +18,7 @@ use Rattle.plane.proofs.Sums.{any-in}
 use Rattle.plane.proofs.Parity.{odd-find}
 use Rattle.plane.proofs.Points.{same-is, odd-without, After, above, along, after-refl, after-trans, after-row, after-no, after-yes, after-both, before-after, before-trans}
 use Rattle.rule.specs.Rule.{earlier, orFound, firstOf, pickK, pickL, pickM, rightOf, over, stops, stopper, IsFirst, Picked}
-use Rattle.rule.specs.Table.{Accepted}
+use Rattle.rule.specs.Rows.{Accepted}
 
 -- ---- The first point that passes a test
 

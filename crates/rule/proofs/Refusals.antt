@@ -11,54 +11,55 @@ use lib.Dec.{eqb}
 use borrow.Author.Tests.{ltb-false, eqb-true, eqb-false, le-ltb, eq-eqb, ne-eqb, not-false}
 use Rattle.plane.specs.declared.Point.{Point}
 use Rattle.plane.specs.declared.Rect.{Rect}
-use Rattle.plane.specs.Words.{origin, pointInRange, rectInRange, flat, pointsOf, rectsOf}
+use Rattle.plane.specs.Words.{origin, pointInRange, rectInRange, flat, pointsOf, rectsOf, rectSize, mostPoints, mostRects}
 use Rattle.plane.proofs.Places.{at-every-place, all-pass, rows-even, columns-even, once-exactly}
-use Rattle.rule.specs.Rule.{Taken, step, ruleList}
+use Rattle.rule.specs.Rule.{Taken, step}
 use Rattle.rule.specs.Back.{backList}
-use Rattle.rule.specs.Table.{Check, numberOf, FirstGiven, LENGTH, MANY, WORK, RANGE, RANGE-rects, ROOM, FLAT, pointChecks, forwardChecks, backwardChecks, stepChecks, Verdict, accepted, refused, verdict, Accepted, AcceptedRects, ForwardAccepted, BackwardAccepted, StepAccepted}
-use Rattle.rule.specs.Answers.{forwardSays, forwardAnswer, backwardSays, backwardAnswer, stepSays, stepAnswer, stepNumber, stepPlace}
+use Rattle.rule.specs.Answers.{forwardSays, forwardAnswer, backwardSays, backwardAnswer, stepSays, stepAnswer, stepNumber, stepPlace, forwardChecks, backwardChecks, stepChecks, ForwardAccepted, BackwardAccepted, StepAccepted, forwardList, Sums, forwardSums}
+use Rattle.rule.specs.Checks.{Check, rowNumber, FirstGiven, Verdict, accepted, refused, verdict}
+use Rattle.rule.specs.Rows.{LENGTH, MANY, WORK, RANGE, RANGE-rects, ROOM, FLAT, pointChecks, Accepted, AcceptedRects}
 use Rattle.rule.proofs.Verdicts.{Clear, AllClear, refused-exactly, accepted-clear, clear-append, Numbers, numberIn, placeIn, answer-refuses, answer-accepts, lacks-room}
 
 -- ---- The orders
 
 -- forward: 1, 2, 3, 4, 5, 6, 7, 8
-pub forward-order : (a : List ℤ) (work out : ℕ) → map numberOf (forwardChecks a work out) ≡ 1 ∷ 2 ∷ 3 ∷ 4 ∷ 5 ∷ 6 ∷ 7 ∷ 8 ∷ []
-unfolding forwardChecks pointChecks numberOf
+pub forward-order : (a : List ℤ) (work out : ℕ) → map rowNumber (forwardChecks a work out) ≡ 1 ∷ 2 ∷ 3 ∷ 4 ∷ 5 ∷ 6 ∷ 7 ∷ 8 ∷ []
+unfolding forwardChecks pointChecks rowNumber
 forward-order a work out = refl
 
 -- backward: 1, 2, 9, 4, 8
-pub backward-order : (a : List ℤ) (out : ℕ) → map numberOf (backwardChecks a out) ≡ 1 ∷ 2 ∷ 9 ∷ 4 ∷ 8 ∷ []
-unfolding backwardChecks numberOf
+pub backward-order : (a : List ℤ) (out : ℕ) → map rowNumber (backwardChecks a out) ≡ 1 ∷ 2 ∷ 9 ∷ 4 ∷ 8 ∷ []
+unfolding backwardChecks rowNumber
 backward-order a out = refl
 
 -- a step: 2, 3, 10, 4, 5, 6, 7
-pub step-order : (work : List ℤ) (n : ℕ) → map numberOf (stepChecks work n) ≡ 2 ∷ 3 ∷ 10 ∷ 4 ∷ 5 ∷ 6 ∷ 7 ∷ []
-unfolding stepChecks pointChecks numberOf
+pub step-order : (work : List ℤ) (n : ℕ) → map rowNumber (stepChecks work n) ≡ 2 ∷ 3 ∷ 10 ∷ 4 ∷ 5 ∷ 6 ∷ 7 ∷ []
+unfolding stepChecks pointChecks rowNumber
 step-order work n = refl
 
 -- ---- Answers
 
 -- no check has the number 0, which is done's
 forward-numbers : (a : List ℤ) (work out : ℕ) → Numbers (λ k. 1 ≤ k) (forwardChecks a work out)
-unfolding forwardChecks pointChecks numberOf
+unfolding forwardChecks pointChecks rowNumber
 forward-numbers a work out = omega arith
 
 backward-numbers : (a : List ℤ) (out : ℕ) → Numbers (λ k. 1 ≤ k) (backwardChecks a out)
-unfolding backwardChecks numberOf
+unfolding backwardChecks rowNumber
 backward-numbers a out = omega arith
 
 step-numbers : (work : List ℤ) (n : ℕ) → Numbers (λ k. 1 ≤ k) (stepChecks work n)
-unfolding stepChecks pointChecks numberOf
+unfolding stepChecks pointChecks rowNumber
 step-numbers work n = omega arith
 
 -- each answer has its verdict's number and place
 pub forward-says : (a : List ℤ) (work out : ℕ) → (forwardAnswer a work out .answer ≡ numberIn (verdict (forwardChecks a work out))) × (forwardAnswer a work out .place ≡ placeIn (verdict (forwardChecks a work out)))
 unfolding forwardAnswer
-forward-says a work out = go (verdict (forwardChecks a work out)) (ruleList (pointsOf a))
+forward-says a work out = go (verdict (forwardChecks a work out)) (forwardSums a)
   where
-    go : (v : Verdict) (rs : List Rect) → (forwardSays v rs .answer ≡ numberIn v) × (forwardSays v rs .place ≡ placeIn v)
-    go accepted rs = (refl, refl)
-    go (refused k p) rs = (refl, refl)
+    go : (v : Verdict) (s : Sums) → (forwardSays v s .answer ≡ numberIn v) × (forwardSays v s .place ≡ placeIn v)
+    go accepted s = (refl, refl)
+    go (refused k p) s = (refl, refl)
 
 pub backward-says : (a : List ℤ) (out : ℕ) → (backwardAnswer a out .answer ≡ numberIn (verdict (backwardChecks a out))) × (backwardAnswer a out .place ≡ placeIn (verdict (backwardChecks a out)))
 unfolding backwardAnswer
@@ -137,18 +138,18 @@ unfolding forwardChecks
 forward-accepted a work out = Iff·trans (accepted-clear (forwardChecks a work out)) (go, back)
   where
     last : List Check
-    last = ROOM (length (ruleList (pointsOf a))) (out / 4) ∷ []
+    last = ROOM (length (forwardList a)) (out / rectSize) ∷ []
 
     go : AllClear (forwardChecks a work out) → ForwardAccepted a work out
     go h =
         let t = clear-append (pointChecks (pointsOf a)) last .0 (h .1 .1 .1) in
-        record { even = multiple-exactly (length a % 2) .0 (h .0); few = ltb-false 4096 (length a / 2) (h .1 .0); working = ltb-false work (2 * (length a / 2)) (h .1 .1 .0); points = points-clear (pointsOf a) .0 (t .0); room = t .1 .0 }
+        record { even = multiple-exactly (length a % 2) .0 (h .0); few = ltb-false mostPoints (length a / 2) (h .1 .0); working = ltb-false work (2 * (length a / 2)) (h .1 .1 .0); points = points-clear (pointsOf a) .0 (t .0); room = t .1 .0 }
 
     back : ForwardAccepted a work out → AllClear (forwardChecks a work out)
-    back c = (multiple-exactly (length a % 2) .1 (c .even), (le-ltb 4096 (length a / 2) (c .few), (le-ltb work (2 * (length a / 2)) (c .working), clear-append (pointChecks (pointsOf a)) last .1 (points-clear (pointsOf a) .1 (c .points), (c .room, tt)))))
+    back c = (multiple-exactly (length a % 2) .1 (c .even), (le-ltb mostPoints (length a / 2) (c .few), (le-ltb work (2 * (length a / 2)) (c .working), clear-append (pointChecks (pointsOf a)) last .1 (points-clear (pointsOf a) .1 (c .points), (c .room, tt)))))
 
 -- with other room, if it is enough for the list, forward accepts the same
-pub accepted-with-room : {a : List ℤ} {work out room : ℕ} → ForwardAccepted a work out → length (ruleList (pointsOf a)) ≤ room / 4 → ForwardAccepted a work room
+pub accepted-with-room : {a : List ℤ} {work out room : ℕ} → ForwardAccepted a work out → length (forwardList a) ≤ room / rectSize → ForwardAccepted a work room
 accepted-with-room c h = record { even = c .even; few = c .few; working = c .working; points = c .points; room = h }
 
 -- backward's accept exactly what `BackwardAccepted` says
@@ -157,12 +158,12 @@ unfolding backwardChecks
 backward-accepted a out = Iff·trans (accepted-clear (backwardChecks a out)) (go, back)
   where
     go : AllClear (backwardChecks a out) → BackwardAccepted a out
-    go h = record { even = multiple-exactly (length a % 4) .0 (h .0); few = ltb-false 16384 (length a / 4) (h .1 .0); rects = rects-clear (rectsOf a) .0 (h .1 .1 .0, (h .1 .1 .1 .0, tt)); room = h .1 .1 .1 .1 .0 }
+    go h = record { even = multiple-exactly (length a % rectSize) .0 (h .0); few = ltb-false mostRects (length a / rectSize) (h .1 .0); rects = rects-clear (rectsOf a) .0 (h .1 .1 .0, (h .1 .1 .1 .0, tt)); room = h .1 .1 .1 .1 .0 }
 
     back : BackwardAccepted a out → AllClear (backwardChecks a out)
     back c =
         let t = rects-clear (rectsOf a) .1 (c .rects) in
-        (multiple-exactly (length a % 4) .1 (c .even), (le-ltb 16384 (length a / 4) (c .few), (t .0, (t .1 .0, (c .room, tt)))))
+        (multiple-exactly (length a % rectSize) .1 (c .even), (le-ltb mostRects (length a / rectSize) (c .few), (t .0, (t .1 .0, (c .room, tt)))))
 
 -- a step's accept exactly what `StepAccepted` says
 pub step-accepted : (work : List ℤ) (n : ℕ) → (verdict (stepChecks work n) ≡ accepted) ↔ StepAccepted work n
@@ -173,33 +174,33 @@ step-accepted work n = Iff·trans (accepted-clear (stepChecks work n)) (go, back
     ps = take n (pointsOf work)
 
     go : AllClear (stepChecks work n) → StepAccepted work n
-    go h = record { few = ltb-false 4096 n (h .0); working = ltb-false (length work) (2 * n) (h .1 .0); some-left = omega (arith, eqb-false n 0 (h .1 .1 .0)); points = points-clear ps .0 (h .1 .1 .1) }
+    go h = record { few = ltb-false mostPoints n (h .0); working = ltb-false (length work) (2 * n) (h .1 .0); some-left = omega (arith, eqb-false n 0 (h .1 .1 .0)); points = points-clear ps .0 (h .1 .1 .1) }
 
     back : StepAccepted work n → AllClear (stepChecks work n)
-    back c = (le-ltb 4096 n (c .few), (le-ltb (length work) (2 * n) (c .working), (ne-eqb n 0 (λ e. omega arith), points-clear ps .1 (c .points))))
+    back c = (le-ltb mostPoints n (c .few), (le-ltb (length work) (2 * n) (c .working), (ne-eqb n 0 (λ e. omega arith), points-clear ps .1 (c .points))))
 
 -- ---- Room
 
 -- forward lacks room, at p, exactly when p is the length of the list, the output has room for fewer, and with room for p
 -- it would accept
-pub forward-lacks-room : (a : List ℤ) (work out p : ℕ) → (verdict (forwardChecks a work out) ≡ refused 8 p) ↔ (ForwardAccepted a work (4 * p) × (p ≡ length (ruleList (pointsOf a))) × (out / 4 < p))
-unfolding forwardChecks pointChecks numberOf
-forward-lacks-room a work out p = lacks-room (LENGTH (length a) 2 ∷ MANY 4096 (length a / 2) ∷ WORK work (length a / 2) ∷ pointChecks (pointsOf a)) 8 _ (out / 4) (4 * p / 4) p (omega arith) (omega arith) (forward-accepted a work (4 * p))
+pub forward-lacks-room : (a : List ℤ) (work out p : ℕ) → (verdict (forwardChecks a work out) ≡ refused 8 p) ↔ (ForwardAccepted a work (rectSize * p) × (p ≡ length (forwardList a)) × (out / rectSize < p))
+unfolding forwardChecks pointChecks rowNumber
+forward-lacks-room a work out p = lacks-room (LENGTH (length a) 2 ∷ MANY mostPoints (length a / 2) ∷ WORK work (length a / 2) ∷ pointChecks (pointsOf a)) 8 _ (out / rectSize) (rectSize * p / rectSize) p (omega arith) (omega arith) (forward-accepted a work (rectSize * p))
 
 -- so its answer 8 tells the length of the list
-pub forward-needs : (a : List ℤ) (work out : ℕ) → forwardAnswer a work out .answer ≡ 8 → verdict (forwardChecks a work out) ≡ refused 8 (length (ruleList (pointsOf a)))
+pub forward-needs : (a : List ℤ) (work out : ℕ) → forwardAnswer a work out .answer ≡ 8 → verdict (forwardChecks a work out) ≡ refused 8 (length (forwardList a))
 forward-needs a work out e =
     let p : ℕ = forwardAnswer a work out .place in
     let v = refused-exactly (forwardChecks a work out) 8 p .1 (forward-refuses a work out 7 p .0 (e, refl)) in
     rw (← forward-lacks-room a work out p .0 v .1) v
 
 -- where forward answers 0 or 8, it would accept with room for the list
-pub forward-fits : (a : List ℤ) (work out : ℕ) → (forwardAnswer a work out .answer ≡ 0) ⊎ (forwardAnswer a work out .answer ≡ 8) → ForwardAccepted a work (4 * length (ruleList (pointsOf a)))
+pub forward-fits : (a : List ℤ) (work out : ℕ) → (forwardAnswer a work out .answer ≡ 0) ⊎ (forwardAnswer a work out .answer ≡ 8) → ForwardAccepted a work (rectSize * length (forwardList a))
 forward-fits a work out (inl e) = accepted-with-room (forward-accepted a work out .0 (forward-accepts-exactly a work out .0 e)) (omega arith)
 forward-fits a work out (inr e) = forward-lacks-room a work out _ .0 (forward-needs a work out e) .0
 
 -- backward lacks room, at p, exactly when p is the count of points, the output has room for fewer, and with room for p it
 -- would accept
 pub backward-lacks-room : (a : List ℤ) (out p : ℕ) → (verdict (backwardChecks a out) ≡ refused 8 p) ↔ (BackwardAccepted a (2 * p) × (p ≡ length (backList (rectsOf a))) × (out / 2 < p))
-unfolding backwardChecks numberOf
-backward-lacks-room a out p = lacks-room (LENGTH (length a) 4 ∷ MANY 16384 (length a / 4) ∷ FLAT (rectsOf a) ∷ RANGE-rects (rectsOf a) ∷ []) 8 _ (out / 2) (2 * p / 2) p (omega arith) (omega arith) (backward-accepted a (2 * p))
+unfolding backwardChecks rowNumber
+backward-lacks-room a out p = lacks-room (LENGTH (length a) rectSize ∷ MANY mostRects (length a / rectSize) ∷ FLAT (rectsOf a) ∷ RANGE-rects (rectsOf a) ∷ []) 8 _ (out / 2) (2 * p / 2) p (omega arith) (omega arith) (backward-accepted a (2 * p))

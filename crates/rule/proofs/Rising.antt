@@ -14,7 +14,7 @@ use Rattle.plane.proofs.Bools.{by, and-make}
 use Rattle.plane.proofs.Sums.{sum-in, count-sum, count-mono}
 use Rattle.plane.proofs.Points.{after-no, after-both, before-self, before-above}
 use Rattle.rule.specs.Rule.{rectOf, toggleFour, ruleList, Picked}
-use Rattle.rule.specs.Table.{Accepted, AcceptedRects}
+use Rattle.rule.specs.Rows.{Accepted, AcceptedRects}
 use Rattle.rule.proofs.Picks.{after-k, higher}
 use Rattle.rule.proofs.Steps.{sum-step, step-solid, step-in-range, Steps, stay, more}
 use Rattle.rule.proofs.Bound.{rule-steps}

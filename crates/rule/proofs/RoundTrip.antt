@@ -16,7 +16,7 @@ use Rattle.plane.proofs.Alike.{Alike}
 use Rattle.plane.proofs.Rising.{inOrder-rising, inOrder-has}
 use Rattle.rule.specs.Rule.{rectOf, ruleList, Picked}
 use Rattle.rule.specs.Back.{corners, backList}
-use Rattle.rule.specs.Table.{Accepted, AcceptedRects}
+use Rattle.rule.specs.Rows.{Accepted, AcceptedRects}
 use Rattle.rule.proofs.Toggle.{odd-four}
 use Rattle.rule.proofs.Picks.{level}
 use Rattle.rule.proofs.Steps.{Steps, stay, more}

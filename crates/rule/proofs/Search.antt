@@ -4,7 +4,7 @@ use native.Mathlib.Omega.{arith}
 use mathlib.Core.Path.{_≡_}
 use mathlib.Core.Bool.{Bool, true}
 use mathlib.Core.Option.{Option·getD}
-use Rattle.rule.specs.Table.{each, by-item, firstFrom, placeGiven}
+use Rattle.rule.specs.Checks.{each, by-item, firstFrom, placeGiven}
 use Rattle.rule.proofs.Verdicts.{NoneBelow, place-given, place-clear}
 
 module _ {n many : ℕ} (places : many ≡ n) {t : ℕ → Bool} {i : ℕ} (none-yet : NoneBelow i t) where

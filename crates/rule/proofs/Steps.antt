@@ -17,7 +17,7 @@ use Rattle.plane.proofs.Bools.{by, and-parts, and-make, xor-back, xor-left-comm
 use Rattle.plane.proofs.Sums.{sum-in, sum-zero, count-in}
 use Rattle.plane.proofs.Points.{same-refl}
 use Rattle.rule.specs.Rule.{pickK, pickL, pickM, rectOf, toggle, toggleFour, takeRect, step, run, leftAfter, Picked}
-use Rattle.rule.specs.Table.{Accepted}
+use Rattle.rule.specs.Rows.{Accepted}
 use Rattle.rule.proofs.Toggle.{odd-four, once-four, sum-four, four-lengths}
 use Rattle.rule.proofs.Picks.{level, right-of, higher, apart, picks}
 

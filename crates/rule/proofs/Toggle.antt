@@ -9,13 +9,13 @@ use lib.ListN.{length, getD}
 use lib.IntN.{ℤ}
 use Rattle.plane.specs.declared.Point.{Point}
 use Rattle.plane.specs.Lists.{bit, count, odd, sum}
-use Rattle.plane.specs.Words.{origin, same}
+use Rattle.plane.specs.Words.{origin, same, pointAt}
 use Rattle.plane.proofs.Bools.{isOdd, isOdd-bit, xor-back}
 use Rattle.plane.proofs.Sums.{sum-last-added, sum-remove, sum-length, count-sum}
 use Rattle.plane.proofs.Parity.{odd-sum}
 use Rattle.plane.proofs.Points.{same-is}
 use Rattle.rule.specs.Rule.{further, placeOf, remove, add, toggleAt, toggle, toggleFour}
-use Rattle.rule.specs.Table.{pointAt, firstFrom}
+use Rattle.rule.specs.Checks.{firstFrom}
 
 -- ---- Where a point stands
 

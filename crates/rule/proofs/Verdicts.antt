@@ -9,7 +9,7 @@ use mathlib.Core.Option.{Option, none, some, Option·getD}
 use lib.Dec.{ltb}
 use borrow.Author.Tests.{ltb-true, ltb-false, lt-ltb, le-ltb}
 use Rattle.plane.proofs.Bools.{clash, by-no, cond-case}
-use Rattle.rule.specs.Table.{Check, whole, each, needs, numberOf, Given, by-whole, by-item, by-need, FirstGiven, this, later, firstFrom, placeGiven, Verdict, accepted, refused, orLater, verdict}
+use Rattle.rule.specs.Checks.{Check, whole, each, needs, rowNumber, Given, by-whole, by-item, by-need, FirstGiven, this, later, firstFrom, placeGiven, Verdict, accepted, refused, orLater, verdict}
 
 -- ---- A check alone
 
@@ -112,20 +112,20 @@ unfolding verdict
 checks-read [] = passes tt
 checks-read (r ∷ checks) = go (check-placed r) (checks-read checks)
   where
-    go : {o : Option ℕ} {v : Verdict} → Placed r o → Read checks v → Read (r ∷ checks) (orLater (numberOf r) o v)
+    go : {o : Option ℕ} {v : Verdict} → Placed r o → Read checks v → Read (r ∷ checks) (orLater (rowNumber r) o v)
     go (at g) w = refuses (this g)
     go (nowhere c) (passes h) = passes (c, h)
     go (nowhere c) (refuses f) = refuses (later (λ p. clear-given c) f)
 
 -- a check of the whole refuses exactly where it offends
 pub verdict-whole : (k : ℕ) (t : Bool) (checks : List Check) → verdict (whole k t ∷ checks) ≡ cond t (refused k 0) (verdict checks)
-unfolding verdict numberOf placeGiven
+unfolding verdict rowNumber placeGiven
 verdict-whole k true checks = refl
 verdict-whole k false checks = refl
 
 -- with n for no place, a check of n items refuses exactly where its place is below n
 pub verdict-each : (k n : ℕ) (t : ℕ → Bool) (checks : List Check) → let i = Option·getD (placeGiven (each k n t)) n in verdict (each k n t ∷ checks) ≡ cond (ltb i n) (refused k i) (verdict checks)
-unfolding verdict numberOf
+unfolding verdict rowNumber
 verdict-each k n t checks = go (check-placed (each k n t))
   where
     go : {o : Option ℕ} → Placed (each k n t) o → orLater k o (verdict checks) ≡ cond (ltb (Option·getD o n) n) (refused k (Option·getD o n)) (verdict checks)
@@ -169,7 +169,7 @@ pub accepted-exactly : (checks : List Check) → (verdict checks ≡ accepted) �
 accepted-exactly checks = Iff·trans (accepted-clear checks) (clear-in checks, in-clear checks)
 
 -- a check that is given after checks of which nothing offends is the first given
-given-first : (checks : List Check) {r : Check} (more : List Check) {p : ℕ} → AllClear checks → Given r p → FirstGiven (checks ++ (r ∷ more)) (numberOf r) p
+given-first : (checks : List Check) {r : Check} (more : List Check) {p : ℕ} → AllClear checks → Given r p → FirstGiven (checks ++ (r ∷ more)) (rowNumber r) p
 given-first [] more h g = this g
 given-first (s ∷ checks) more h g = later (λ p. clear-given (h .0)) (given-first checks more (h .1) g)
 
@@ -193,7 +193,7 @@ refused-append checks more {k} {p} e = verdict-first (first-append more (refused
 -- the numbers of the checks are as told
 abbrev pub Numbers : (ℕ → Type 0) → List Check → Type 0
 Numbers P [] = Unit
-Numbers P (r ∷ checks) = P (numberOf r) × Numbers P checks
+Numbers P (r ∷ checks) = P (rowNumber r) × Numbers P checks
 
 number-known : {checks : List Check} {k p : ℕ} (P : ℕ → Type 0) → Numbers P checks → FirstGiven checks k p → P k
 number-known P n (this g) = n .0
@@ -242,7 +242,7 @@ need-given (by-need h) = (refl, h)
 
 -- the last check lacks room, at p, exactly when p is the number needed, the room is less, and enough for p is accepted
 pub lacks-room : {X : Type 0} (checks : List Check) (k need room enough p : ℕ) → Numbers (λ n. n ≢ k) checks → p ≤ enough → (verdict (checks ++ (needs k need enough ∷ [])) ≡ accepted) ↔ X → (verdict (checks ++ (needs k need room ∷ [])) ≡ refused k p) ↔ (X × (p ≡ need) × (room < p))
-unfolding numberOf
+unfolding rowNumber
 lacks-room {X} checks k need room enough p n fits x = (go, back)
   where
     last : ℕ → List Check

@@ -9,7 +9,7 @@ use lib.Signed.{ltZ}
 use Rattle.plane.specs.declared.Point.{Point}
 use Rattle.plane.specs.declared.Rect.{Rect}
 use Rattle.plane.specs.Lists.{any, sum}
-use Rattle.plane.specs.Words.{lowEnd, highEnd, pointsOf, flatRects, areaOf}
+use Rattle.plane.specs.Words.{lowEnd, highEnd, pointsOf, flatRects, areaOf, rectSize}
 use Rattle.rule.specs.Rule.{Taken, firstOf, over, pickK, pickL, takeRect, run, enough}
 use Rattle.rule.specs.Answers.{forwardAnswer, forwardOut, forwardWork, backwardAnswer, backwardOut, stepAnswer, stepWork, stepNumber, stepPlace, stepValues}
 
@@ -54,11 +54,11 @@ paperList a = run paperStep (enough (pointsOf a)) (pointsOf a)
 -- what the definitions answer
 unfoldable pub gives : Asked → Said
 gives (forward a room) =
-    let r = forwardAnswer a (length a) (4 * room) in
+    let r = forwardAnswer a (length a) (rectSize * room) in
     record {
       numbers = map pos (r .answer ∷ r .place ∷ r .count ∷ r .area ∷ r .edge ∷ []);
-      out = forwardOut a (length a) (sevens (4 * room));
-      work = forwardWork a (sevens (length a)) (4 * room);
+      out = forwardOut a (length a) (sevens (rectSize * room));
+      work = forwardWork a (sevens (length a)) (rectSize * room);
     }
 gives (oneStep a) =
     let r = stepAnswer a (length a / 2) in
@@ -117,7 +117,7 @@ listL = map pos (0 ∷ 0 ∷ 1 ∷ 1 ∷ 0 ∷ 0 ∷ 1 ∷ 1 ∷ [])
 -- ---- The table
 
 -- a line: what is asked, and what document 01 says
-pub record Line : Type 0 where
+pub record Case : Type 0 where
   pub asked : Asked
   pub says : Said
 
@@ -130,7 +130,7 @@ abbrev pub refuses : ℕ → ℕ → List ℤ → List ℤ → Said
 refuses number place out work = record { numbers = map pos (number ∷ place ∷ 0 ∷ 0 ∷ 0 ∷ []); out = out; work = work }
 
 -- the lines
-unfoldable pub cases : List Line
+unfoldable pub cases : List Case
 cases =
     -- A, with room to spare, and one step of it
     record { asked = forward plateA 2; says = done 4 1 1 4 (map pos (0 ∷ 0 ∷ 1 ∷ 1 ∷ []) ++ sevens 4) }

@@ -1,5 +1,6 @@
 pub mod Rule
 pub mod Back
-pub mod Table
+pub mod Checks
+pub mod Rows
 pub mod Answers
 pub mod Cases

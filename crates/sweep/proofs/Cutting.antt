@@ -17,7 +17,7 @@ use Rattle.plane.specs.Words.{eqZ, inRange, pointsOf, right, top, rectInRange}
 use Rattle.plane.proofs.Bools.{and-four}
 use Rattle.plane.proofs.Order.{order, eqZ-refl, side-is, apart-most}
 use Rattle.plane.proofs.Sums.{sum-append}
-use Rattle.rule.specs.Rule.{ruleList}
+use Rattle.rule.specs.Answers.{forwardList}
 use Rattle.live.specs.declared.Live.{Live}
 use Rattle.live.specs.Stands.{far, number, rectNo, endOf, nextOn, stand, Sweeping}
 use Rattle.live.proofs.Numbered.{rect-no-solid}
@@ -55,7 +55,7 @@ module _ {a work : List ℤ} {z : Sweep} {t : Point} {k : Live} (c : Comes a wor
       cuts (u .points) (stands c e) (omega (order, at)) (omega order) (rw (← at) (c .end-waits)) (⊎-elim (λ (o : eqZ (z .opened) far ≡ false). inl o) (λ (f : ltZ (nearer z t .x) (k .right) ≡ true). inr (⊎-elim (λ (d : nearer z t .x ≡ t .x). inl (omega (order, at))) (λ (d : nearer z t .x ≡ z .carried). inr (omega order)) (nearer-one c))) over)
 
   -- its number is of the list
-  listed : number k < length (ruleList (pointsOf a))
+  listed : number k < length (forwardList a)
   listed = omega (arith, is-live c e .is-given, stands c e .given-few)
 
   -- its rectangle is that of the list

@@ -15,8 +15,8 @@ use Rattle.plane.proofs.Bools.{bit-most}
 use Rattle.plane.proofs.Order.{eqZ-is, eqZ-refl}
 use Rattle.plane.proofs.Arrays.{length-points}
 use Rattle.plane.proofs.Sums.{sum-append, sum-last-added, below-next}
-use Rattle.rule.specs.Rule.{ruleList}
-use Rattle.rule.specs.Table.{Accepted}
+use Rattle.rule.specs.Rows.{Accepted}
+use Rattle.rule.specs.Answers.{forwardList}
 use Rattle.rule.proofs.Bound.{even-length, rule-most}
 use Rattle.live.specs.declared.Live.{Live}
 use Rattle.live.specs.Stands.{far, number, stand, Sweeping}
@@ -45,7 +45,7 @@ pub room-half : (a : List ℤ) → Accepted (pointsOf a) → 2 * roomFor a ≡ l
 room-half a acc = let e = even-length (pointsOf a) acc in let d = e .1 in let l = length-points a in omega arith
 
 -- their list has at most 4,096 squared rectangles
-pub given-most : (a : List ℤ) (g : ℕ) → length a / 2 ≤ 4096 → g ≤ length (ruleList (pointsOf a)) → g ≤ 16_777_216
+pub given-most : (a : List ℤ) (g : ℕ) → length a / 2 ≤ 4096 → g ≤ length (forwardList a) → g ≤ 16_777_216
 given-most a g few listed =
     let n : ℕ = length (pointsOf a) in
     let fewer : n ≤ 4096 = omega (arith, length-points a) in

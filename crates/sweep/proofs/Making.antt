@@ -16,8 +16,9 @@ use Rattle.plane.proofs.Bools.{clash}
 use Rattle.plane.proofs.Sums.{sum-length, count-sum, count-find, below-grows, below-has, below-list}
 use Rattle.plane.proofs.Places.{stretch-none}
 use Rattle.rule.specs.Rule.{ruleList}
-use Rattle.rule.specs.Table.{Accepted, accepted, ForwardAccepted}
-use Rattle.rule.specs.Answers.{written}
+use Rattle.rule.specs.Answers.{written, ForwardAccepted, forwardList}
+use Rattle.rule.specs.Rows.{Accepted}
+use Rattle.rule.specs.Checks.{accepted}
 use Rattle.checks.specs.Screens.{rowOrder}
 use Rattle.live.specs.Stands.{rectNo}
 use Rattle.live.proofs.Moves.{starts}
@@ -50,7 +51,7 @@ pub record Making (a : List ℤ) (writes : Bool) (work₀ rects₀ work rects : 
   pub counted : made ≡ length finished
   pub areas : area ≡ sum (byNumber (pointsOf a) areaOf) finished
   pub edges : edge ≡ sum (byNumber (pointsOf a) edgeOf) finished
-  pub room : writes ≡ true → 4 * length (ruleList (pointsOf a)) ≤ length rects₀
+  pub room : writes ≡ true → 4 * length (forwardList a) ≤ length rects₀
   pub output : Output writes (pointsOf a) finished rects₀ rects
 
 -- the sum by number over the whole list is the sum over it
@@ -79,7 +80,7 @@ starts-underway {a} {work} acc = record {
 }
 
 -- and none are given
-pub starts-making : {a work rects : List ℤ} {order : List ℕ} {out : ℕ} {writes : Bool} {z : Sweep} → ForwardAccepted a (length work) out → order ≡ rowOrder (pointsOf a) → (writes ≡ true → 4 * length (ruleList (pointsOf a)) ≤ length rects) → z ≡ startOf (length order / 2) → Making a writes work rects work rects z 0 0 0
+pub starts-making : {a work rects : List ℤ} {order : List ℕ} {out : ℕ} {writes : Bool} {z : Sweep} → ForwardAccepted a (length work) out → order ≡ rowOrder (pointsOf a) → (writes ≡ true → 4 * length (forwardList a) ≤ length rects) → z ≡ startOf (length order / 2) → Making a writes work rects work rects z 0 0 0
 unfolding sum sumBelow
 starts-making {a} {work} {rects} {order} {writes = writes} {z = z} acc e room s =
     let at-start : z ≡ startOf (roomFor a) = s ∙ ap (λ n. startOf (n / 2)) (order-places a (acc .points) e) in
@@ -102,15 +103,15 @@ starts-making {a} {work} {rects} {order} {writes = writes} {z = z} acc e room s 
 -- ---- One move further
 
 -- numbers that with the live ones are all that have begun: every weight sums over them to at most its sum over the list
-sum-within : {a work : List ℤ} {z : Sweep} (finished : List ℕ) (f : Rect → ℕ) → Underway a work z → (let w = byNumber (pointsOf a) f in sum w finished + liveSum a work z w ≡ sumBelow (z .given) w) → sum (byNumber (pointsOf a) f) finished ≤ sum f (ruleList (pointsOf a))
+sum-within : {a work : List ℤ} {z : Sweep} (finished : List ℕ) (f : Rect → ℕ) → Underway a work z → (let w = byNumber (pointsOf a) f in sum w finished + liveSum a work z w ≡ sumBelow (z .given) w) → sum (byNumber (pointsOf a) f) finished ≤ sum f (forwardList a)
 sum-within {a} finished f u e = omega (arith, below-grows (byNumber (pointsOf a) f) (u .sweeping .given-few), by-list (pointsOf a) (u .points) f)
 
 module _ {a : List ℤ} {writes : Bool} {work₀ rects₀ work rects : List ℤ} {z : Sweep} {made area edge : ℕ} (m : Making a writes work₀ rects₀ work rects z made area edge) where
   -- no more are given than the list has
   pub made-fits : made ≤ 16_777_216
   made-fits =
-      let most : sum (λ i. 1) (m .finished) ≤ sum (λ r. 1) (ruleList (pointsOf a)) = sum-within (m .finished) (λ r. 1) (m .underway) (m .tally (λ i. 1)) in
-      given-most a made (m .underway .few) (omega (arith, m .counted, sum-length (m .finished), most, sum-length (ruleList (pointsOf a))))
+      let most : sum (λ i. 1) (m .finished) ≤ sum (λ r. 1) (forwardList a) = sum-within (m .finished) (λ r. 1) (m .underway) (m .tally (λ i. 1)) in
+      given-most a made (m .underway .few) (omega (arith, m .counted, sum-length (m .finished), most, sum-length (forwardList a)))
 
   -- the output keeps its length
   pub output-length : length rects ≡ length rects₀
@@ -145,10 +146,10 @@ module _ {a : List ℤ} {writes : Bool} {work₀ rects₀ work rects : List ℤ}
     given-tally w = omega (arith, m .tally w, g .balance w)
 
     -- its weight added to the sum so far is at most the sum over the list
-    pub added-within : (f : Rect → ℕ) {s t : ℕ} → s ≡ sum (byNumber (pointsOf a) f) (m .finished) → t ≡ f rect → s + t ≤ sum f (ruleList (pointsOf a))
+    pub added-within : (f : Rect → ℕ) {s t : ℕ} → s ≡ sum (byNumber (pointsOf a) f) (m .finished) → t ≡ f rect → s + t ≤ sum f (forwardList a)
     unfolding sum
     added-within f e h =
-        let most : f (rectNo (pointsOf a) place) + sum (byNumber (pointsOf a) f) (m .finished) ≤ sum f (ruleList (pointsOf a)) = sum-within (place ∷ m .finished) f (g .underway) (given-tally (byNumber (pointsOf a) f)) in
+        let most : f (rectNo (pointsOf a) place) + sum (byNumber (pointsOf a) f) (m .finished) ≤ sum f (forwardList a) = sum-within (place ∷ m .finished) f (g .underway) (given-tally (byNumber (pointsOf a) f)) in
         omega (arith, most, ap f (g .rect-is))
 
     -- put at its place, one more is put
@@ -186,18 +187,18 @@ module _ {a : List ℤ} {writes : Bool} {work₀ rects₀ work rects : List ℤ}
 
 module _ {a : List ℤ} {writes : Bool} {work₀ rects₀ work rects : List ℤ} {z : Sweep} {made area edge : ℕ} (m : Making a writes work₀ rects₀ work rects z made area edge) (all : AllGiven a z work) where
   -- every weight has its sum over all the numbers
-  all-summed : (w : ℕ → ℕ) → sum w (m .finished) ≡ sumBelow (length (ruleList (pointsOf a))) w
+  all-summed : (w : ℕ → ℕ) → sum w (m .finished) ≡ sumBelow (length (forwardList a)) w
   unfolding sum
   all-summed w =
       let none : liveSum a work z w ≡ 0 = rw (all .none-live) in
       omega (arith, m .tally w, none, ap (λ n. sumBelow n w) (all .all-begun))
 
   -- so a weight of rectangles has its sum over the list
-  list-summed : (f : Rect → ℕ) → sum (byNumber (pointsOf a) f) (m .finished) ≡ sum f (ruleList (pointsOf a))
+  list-summed : (f : Rect → ℕ) → sum (byNumber (pointsOf a) f) (m .finished) ≡ sum f (forwardList a)
   list-summed f = all-summed (byNumber (pointsOf a) f) ∙ by-list (pointsOf a) (m .underway .points) f
 
   -- every number of the list is given
-  all-there : (i : ℕ) → i < length (ruleList (pointsOf a)) → In i (m .finished)
+  all-there : (i : ℕ) → i < length (forwardList a) → In i (m .finished)
   all-there i h =
       let w : ℕ → ℕ = λ j. bit (eqb i j) in
       let r = count-find (eqb i) (m .finished) (omega (arith, count-sum (eqb i) (m .finished), all-summed w, below-has w h, ap bit (eq-eqb i i refl))) in
@@ -206,11 +207,11 @@ module _ {a : List ℤ} {writes : Bool} {work₀ rects₀ work rects : List ℤ}
   -- so the list is made
   pub all-made : Swept a writes rects₀ (record { answer = 0; place = 0; count = made; area = area; edge = edge }) rects
   all-made =
-      let count : made ≡ length (ruleList (pointsOf a)) = m .counted ∙ sym (sum-length (m .finished)) ∙ list-summed (λ r. 1) ∙ sum-length (ruleList (pointsOf a)) in
-      let areas : area ≡ sum areaOf (ruleList (pointsOf a)) = m .areas ∙ list-summed areaOf in
-      let edges : edge ≡ sum edgeOf (ruleList (pointsOf a)) = m .edges ∙ list-summed edgeOf in
+      let count : made ≡ length (forwardList a) = m .counted ∙ sym (sum-length (m .finished)) ∙ list-summed (λ r. 1) ∙ sum-length (forwardList a) in
+      let areas : area ≡ sum areaOf (forwardList a) = m .areas ∙ list-summed areaOf in
+      let edges : edge ≡ sum edgeOf (forwardList a) = m .edges ∙ list-summed edgeOf in
       record { answer = λ i. record { answer = 0; place = 0; count = count i; area = areas i; edge = edges i }; output = go writes refl (m .output) }
     where
-      go : (b : Bool) → writes ≡ b → Output b (pointsOf a) (m .finished) rects₀ rects → rects ≡ cond b (written accepted (flatRects (ruleList (pointsOf a))) rects₀) rects₀
+      go : (b : Bool) → writes ≡ b → Output b (pointsOf a) (m .finished) rects₀ rects → rects ≡ cond b (written accepted (flatRects (forwardList a)) rects₀) rects₀
       go true e o = puts-all (m .room e) o (m .underway .points) all-there
       go false e o = o

@@ -13,13 +13,13 @@ use lib.IntN.{ℤ}
 use lib.Dec.{ltb}
 use borrow.Author.Tests.{ltb-true, ltb-false}
 use Rattle.plane.specs.declared.Point.{Point}
-use Rattle.plane.specs.Words.{origin, eqZ, pointsOf, inOrder}
+use Rattle.plane.specs.Words.{origin, eqZ, pointsOf, inOrder, pointAt}
 use Rattle.plane.proofs.Bools.{clash, cond-case}
 use Rattle.plane.proofs.Order.{eqZ-is, eqZ-refl}
 use Rattle.plane.proofs.Maps.{map-at}
 use Rattle.plane.proofs.Arrays.{length-points}
 use Rattle.plane.proofs.Places.{stretch-next, stretch-none, stretch-set}
-use Rattle.rule.specs.Table.{Accepted, pointAt}
+use Rattle.rule.specs.Rows.{Accepted}
 use Rattle.checks.specs.Screens.{rowOrder}
 use Rattle.checks.proofs.Orders.{pointsAt, order-points-in-order}
 use Rattle.live.specs.declared.Live.{Live}

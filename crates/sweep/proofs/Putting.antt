@@ -11,11 +11,12 @@ use lib.Dec.{eqb}
 use borrow.Author.Tests.{eqb-true, eqb-false}
 use Rattle.plane.specs.declared.Point.{Point}
 use Rattle.plane.specs.declared.Rect.{Rect}
-use Rattle.plane.specs.Words.{rectsOf, flatRects}
+use Rattle.plane.specs.Words.{rectsOf, flatRects, rectAt}
 use Rattle.plane.proofs.Arrays.{length-rects, length-flat-rects, rects-rest, rects-set}
 use Rattle.rule.specs.Rule.{ruleList}
-use Rattle.rule.specs.Table.{rectAt, Accepted, accepted}
 use Rattle.rule.specs.Answers.{written}
+use Rattle.rule.specs.Rows.{Accepted}
+use Rattle.rule.specs.Checks.{accepted}
 use Rattle.live.specs.Stands.{rectNo}
 use Rattle.live.proofs.Numbered.{list-at}
 use Rattle.sweep.specs.Inner.{putRect, KeptPast}

@@ -11,11 +11,11 @@ use lib.Dec.{ltb}
 use Rattle.plane.specs.declared.Point.{Point}
 use Rattle.plane.specs.declared.Rect.{Rect}
 use Rattle.plane.specs.Lists.{bit, sum, sumBelow}
-use Rattle.plane.specs.Words.{eqZ, pointsOf, rectsOf, flatRects, inOrder}
+use Rattle.plane.specs.Words.{eqZ, pointsOf, rectsOf, flatRects, inOrder, pointAt, rectAt}
 use Rattle.rule.specs.declared.ForwardAnswer.{ForwardAnswer}
-use Rattle.rule.specs.Rule.{ruleList}
-use Rattle.rule.specs.Table.{Check, LENGTH, MANY, WORK, pointAt, rectAt, pointChecks, Accepted, accepted, verdict}
-use Rattle.rule.specs.Answers.{forwardSays, written}
+use Rattle.rule.specs.Answers.{forwardSays, written, forwardList, forwardSums}
+use Rattle.rule.specs.Checks.{Check, accepted, verdict}
+use Rattle.rule.specs.Rows.{LENGTH, MANY, WORK, pointChecks, Accepted}
 use Rattle.checks.specs.Screens.{rowOrder}
 use Rattle.live.specs.declared.Live.{Live}
 use Rattle.live.specs.Stands.{far, number, rectNo, stand, nextOn, Stand, Sweeping}
@@ -213,14 +213,14 @@ pub record GoesOn (a : List ℤ) (z : Sweep) (before : List ℤ) (at : Sweep) (a
 pub record Gives (a : List ℤ) (z : Sweep) (before : List ℤ) (rect : Rect) (place : ℕ) (at : Sweep) (after : List ℤ) : Type 0 where
   pub underway : Underway a after at
   pub less : toCome a at < toCome a z
-  pub in-list : place < length (ruleList (pointsOf a))
+  pub in-list : place < length (forwardList a)
   pub rect-is : rect ≡ rectNo (pointsOf a) place
   pub balance : (w : ℕ → ℕ) → liveSum a after at w + (w place + sumBelow (z .given) w) ≡ liveSum a before z w + sumBelow (at .given) w
 
 -- a move that is refused, with DRAINED: none is live, and all have begun
 pub record AllGiven (a : List ℤ) (z : Sweep) (before : List ℤ) : Type 0 where
   pub none-live : passedIn before z ++ aheadIn a before z ≡ []
-  pub all-begun : z .given ≡ length (ruleList (pointsOf a))
+  pub all-begun : z .given ≡ length (forwardList a)
 
 -- document 01's number for each case of a move: with a rectangle, or on the way to one, it is answer 0
 abbrev pub moveNumber : Move → ℕ
@@ -242,8 +242,8 @@ Advanced a z before (Refused k p) after = (moveNumber (Refused k p) ≡ 10) × (
 
 -- the list is counted and summed, and written if asked for
 pub record Swept (a : List ℤ) (writes : Bool) (before : List ℤ) (r : ForwardAnswer) (after : List ℤ) : Type 0 where
-  pub answer : r ≡ forwardSays accepted (ruleList (pointsOf a))
-  pub output : after ≡ cond writes (written accepted (flatRects (ruleList (pointsOf a))) before) before
+  pub answer : r ≡ forwardSays accepted (forwardSums a)
+  pub output : after ≡ cond writes (written accepted (flatRects (forwardList a)) before) before
 
 -- ---- Checks
 

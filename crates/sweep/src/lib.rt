@@ -13,18 +13,17 @@ ghost use lib.IntN.{pos, _-ℤ_};
 ghost use lib.Signed.{ltZ, leZ};
 ghost use Prim.Native.Nat.{_+_, _*_, _/_, _<_, _≤_};
 ghost use Rattle.plane.specs.Words.{eqZ, pointsOf, flat, areaOf, edgeOf};
-ghost use Rattle.rule.specs.Rule.{ruleList};
-ghost use Rattle.rule.specs.Table.{verdict, ForwardAccepted};
-ghost use Rattle.rule.specs.Answers.{forwardAnswer, forwardWork, forwardOut};
+ghost use Rattle.rule.specs.Answers.{forwardAnswer, forwardWork, forwardOut, ForwardAccepted, forwardList};
+ghost use Rattle.rule.specs.Checks.{verdict};
 ghost use Rattle.checks.specs.Screens.{screenOf, rowOrder};
 ghost use Rattle.live.specs.Stands.{far, number};
 ghost use Rattle.sweep.specs.Inner.{farPoint, farLive, liveAt, putLive, putRect, onRowOf, nextPoint, nextLive, nearer, cancelled, takenFrom, carrying, passing, closed, opening, newLive, endPut, endPutWork, cutTo, cutWork, atRow, Turned, endedBox, startOf, Underway, Advanced, KeptPast, zeroed, inputChecks, Ordered, Swept};
 use checks::Screen;
 use checks::order_points;
 use live::Live;
-use places::point_at;
 use plane::Point;
 use plane::Rect;
+use plane::point_at;
 use rule::DONE;
 use rule::DRAINED;
 use rule::ForwardAnswer;
@@ -546,8 +545,8 @@ fn sweep_all(
     rects: &mut [i32],
     writes: bool,
 ) -> ForwardAnswer
-    requires { ⌜ ForwardAccepted (now points) (length (now work)) (4 * length (ruleList (pointsOf (now points)))) × (now order ≡ rowOrder (pointsOf (now points))) ⌝ }
-    requires { ⌜ (writes ≡ true → 4 * length (ruleList (pointsOf (now points))) ≤ length (now rects)) ⌝ }
+    requires { ⌜ ForwardAccepted (now points) (length (now work)) (4 * length (forwardList (now points))) × (now order ≡ rowOrder (pointsOf (now points))) ⌝ }
+    requires { ⌜ (writes ≡ true → 4 * length (forwardList (now points)) ≤ length (now rects)) ⌝ }
     ensures { λ r. ⌜ Swept (now (points .entry)) writes (now (rects .entry)) r (now (rects .exit)) ⌝ }
     ensures { λ r. ⌜ KeptPast (2 * (length (now (points .entry)) / 2)) (now (work .entry)) (now (work .exit)) ⌝ }
 {
@@ -606,7 +605,7 @@ fn no_list(answer: u32, place: u64) -> ForwardAnswer
 
 // Forward of points that are accepted and stand in this order: counts the rectangles, and writes only where all have room.
 fn fracture(points: &[i32], order: &[u16], work: &mut [i32], rects: &mut [i32]) -> ForwardAnswer
-    requires { ⌜ ForwardAccepted (now points) (length (now work)) (4 * length (ruleList (pointsOf (now points)))) × (now order ≡ rowOrder (pointsOf (now points))) ⌝ }
+    requires { ⌜ ForwardAccepted (now points) (length (now work)) (4 * length (forwardList (now points))) × (now order ≡ rowOrder (pointsOf (now points))) ⌝ }
     ensures { λ r. ⌜ r ≡ forwardAnswer (now (points .entry)) (length (now (work .entry))) (length (now (rects .entry))) ⌝ }
     ensures { λ r. ⌜ now (work .exit) ≡ forwardWork (now (points .entry)) (now (work .entry)) (length (now (rects .entry))) ⌝ }
     ensures { λ r. ⌜ now (rects .exit) ≡ forwardOut (now (points .entry)) (length (now (work .entry))) (now (rects .entry)) ⌝ }

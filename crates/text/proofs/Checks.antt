@@ -9,7 +9,9 @@ use mathlib.Core.Option.{Option, none, some}
 use Rattle.plane.specs.declared.Point.{Point}
 use Rattle.plane.specs.Words.{origin, flatPoints}
 use Rattle.plane.proofs.Bools.{cond-false}
-use Rattle.rule.specs.Table.{Check, numberOf, placeGiven, accepted, refused, orLater, verdict, pointChecks, forwardChecks, ForwardAccepted}
+use Rattle.rule.specs.Checks.{Check, rowNumber, placeGiven, accepted, refused, orLater, verdict}
+use Rattle.rule.specs.Rows.{pointChecks}
+use Rattle.rule.specs.Answers.{forwardChecks, ForwardAccepted}
 use Rattle.rule.proofs.Verdicts.{accepted-clear, clear-append, refused-append, refused-number, numberIn, answer-accepts}
 use Rattle.rule.proofs.Refusals.{forward-accepted}
 use Rattle.reading.specs.Reading.{pointsRead, textChecks}
@@ -22,7 +24,7 @@ unfolding verdict
 accepted-append [] more e = refl
 accepted-append (c ∷ checks) more e = go (placeGiven c) (accepted-append checks more) e
   where
-    go : (o : Option ℕ) → (verdict checks ≡ accepted → verdict (checks ++ more) ≡ verdict more) → orLater (numberOf c) o (verdict checks) ≡ accepted → orLater (numberOf c) o (verdict (checks ++ more)) ≡ verdict more
+    go : (o : Option ℕ) → (verdict checks ≡ accepted → verdict (checks ++ more) ≡ verdict more) → orLater (rowNumber c) o (verdict checks) ≡ accepted → orLater (rowNumber c) o (verdict (checks ++ more)) ≡ verdict more
     go none rest e = rest e
     go (some p) rest e = let z : _≡_ {A = ℕ} 0 1 = cc in absurd (omega arith)
 
@@ -36,12 +38,12 @@ program-accepts t e =
 
 -- 0 is the number of no refusal
 pub program-answers-0 : (t : List ℕ) → (numberIn (verdict (programChecks t)) ≡ 0) ↔ (verdict (programChecks t) ≡ accepted)
-unfolding programChecks textChecks forwardChecks pointChecks numberOf
+unfolding programChecks textChecks forwardChecks pointChecks rowNumber
 program-answers-0 t = answer-accepts (programChecks t) (omega arith)
 
 -- and 11 is the greatest
 pub program-number : (t : List ℕ) {k p : ℕ} → verdict (programChecks t) ≡ refused k p → k ≤ 11
-unfolding programChecks textChecks forwardChecks pointChecks numberOf
+unfolding programChecks textChecks forwardChecks pointChecks rowNumber
 program-number t e = refused-number (programChecks t) (λ k. k ≤ 11) (omega arith) e
 
 -- where the text is accepted, the program says what forward says of its points
@@ -56,5 +58,5 @@ program-refused t e = refused-append (textChecks t) _ e
 
 -- it names no point
 pub text-names-none : (t : List ℕ) {k p : ℕ} (ps : List Point) → verdict (textChecks t) ≡ refused k p → offender k p ps ≡ origin
-unfolding offender textChecks numberOf namesOne
+unfolding offender textChecks rowNumber namesOne
 text-names-none t {k} {p} ps e = cond-false (namesOne k) _ _ (refused-number (textChecks t) (λ k. namesOne k ≡ false) (refl, (refl, (refl, tt))) e)

@@ -7,12 +7,13 @@ use mathlib.Core.List.{List}
 use lib.ListN.{length, take}
 use Rattle.plane.proofs.Arrays.{points-flat}
 use Rattle.rule.specs.Rule.{ruleList}
-use Rattle.rule.specs.Table.{FirstGiven, Verdict, accepted, refused, verdict, Accepted}
+use Rattle.rule.specs.Checks.{FirstGiven, Verdict, accepted, refused, verdict}
+use Rattle.rule.specs.Rows.{Accepted}
 use Rattle.rule.proofs.Verdicts.{numberIn, placeIn, answer-refuses, refused-exactly}
 use Rattle.numerals.proofs.Putting.{put-made, pasted-length, pasted-front}
 use Rattle.reading.specs.Reading.{pointsRead}
 use Rattle.text.specs.declared.Report.{Report}
-use Rattle.text.specs.Program.{programChecks, listLines, refusalLine, reportSays, programPrints, programReport, Fractured}
+use Rattle.text.specs.Program.{programChecks, listLines, refusalLine, reportSays, programPrints, programReport, ProgramDone}
 use Rattle.text.proofs.Checks.{program-accepts, program-answers-0}
 use Rattle.text.proofs.Longest.{longest-fits}
 
@@ -25,7 +26,7 @@ report-says t = go (verdict (programChecks t))
     go accepted = (refl, refl, refl)
     go (refused k p) = (refl, refl, refl)
 
-module _ {t out : List ℕ} {r : Report} {after : List ℕ} (d : Fractured t out r after) where
+module _ {t out : List ℕ} {r : Report} {after : List ℕ} (d : ProgramDone t out r after) where
   -- into 153,679 bytes everything printed is put, from the start on
   pub prints-all : 153_679 ≤ length out → (take (r .printed) after ≡ programPrints t) × (r .printed ≤ length after) × (length after ≡ length out)
   prints-all room =

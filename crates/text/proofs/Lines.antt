@@ -6,7 +6,7 @@ use mathlib.Core.List.{List, [], _∷_, _++_, append-assoc, append-nil}
 use lib.ListN.{length, take, length-append}
 use lib.Seq.{take-nil, take-suc}
 use Rattle.plane.specs.declared.Rect.{Rect}
-use Rattle.rule.specs.Table.{rectAt}
+use Rattle.plane.specs.Words.{rectAt}
 use Rattle.numerals.specs.Bytes.{ascii}
 use Rattle.numerals.proofs.Printing.{decimal-length}
 use Rattle.text.specs.Program.{sumsLine, rectLine, rectLines, refusalLine}

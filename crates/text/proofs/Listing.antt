@@ -5,20 +5,19 @@ use mathlib.Core.Logic.{_≢_}
 use mathlib.Core.List.{List}
 use lib.ListN.{length}
 use lib.IntN.{ℤ}
-use Rattle.plane.specs.Words.{origin, pointsOf, flatPoints}
+use Rattle.plane.specs.Words.{origin, flatPoints}
 use Rattle.plane.proofs.Arrays.{points-flat}
 use Rattle.rule.specs.declared.ForwardAnswer.{ForwardAnswer}
-use Rattle.rule.specs.Rule.{ruleList}
-use Rattle.rule.specs.Table.{Verdict, accepted, refused, verdict}
+use Rattle.rule.specs.Checks.{Verdict, accepted, refused, verdict}
+use Rattle.rule.specs.Answers.{ForwardDone, forwardList}
 use Rattle.rule.proofs.Verdicts.{numberIn, placeIn}
 use Rattle.rule.proofs.Refusals.{forward-says}
 use Rattle.rule.proofs.Demands.{forward-verdict}
-use Rattle.panbuckle.specs.Contracts.{ForwardDone}
 use Rattle.panbuckle.proofs.Kept.{answers-0, done-list, done-sums}
 use Rattle.numerals.specs.Bytes.{putAt}
 use Rattle.reading.specs.Reading.{pointsRead, textChecks}
 use Rattle.text.specs.declared.Report.{Report}
-use Rattle.text.specs.Program.{mostWork, mostList, listLines, refusalLine, programPrints, programReport, Fractured}
+use Rattle.text.specs.Program.{mostWork, mostList, listLines, refusalLine, programPrints, programReport, ProgramDone}
 use Rattle.text.specs.Inner.{says, listed, Listed}
 use Rattle.text.proofs.Checks.{program-forward, program-refused, text-names-none}
 
@@ -41,7 +40,7 @@ module _ {a work out : List ℤ} {r : ForwardAnswer} {work-after out-after : Lis
       rw (number, place) (refusal-is (says a) (rw number at n))
 
   -- a list is printed as the rule's
-  pub listed-lines : r .answer ≡ 0 → listed r out-after ≡ listLines (ruleList (pointsOf a))
+  pub listed-lines : r .answer ≡ 0 → listed r out-after ≡ listLines (forwardList a)
   unfolding listLines
   listed-lines done =
       let list = done-list d done in
@@ -49,7 +48,7 @@ module _ {a work out : List ℤ} {r : ForwardAnswer} {work-after out-after : Lis
       cc (sums .0, sums .1, sums .2)
 
 -- where the text is accepted, that is what the program does
-pub fractured-listed : {t out : List ℕ} {r : Report} {after : List ℕ} → verdict (textChecks t) ≡ accepted → Listed (flatPoints (pointsRead t)) (length t) out r after → Fractured t out r after
+pub fractured-listed : {t out : List ℕ} {r : Report} {after : List ℕ} → verdict (textChecks t) ≡ accepted → Listed (flatPoints (pointsRead t)) (length t) out r after → ProgramDone t out r after
 unfolding programReport programPrints
 fractured-listed {t} e l =
     let v = program-forward t e in
@@ -57,7 +56,7 @@ fractured-listed {t} e l =
     record { report = rw v (rw same at (l .report)); output = rw v (rw same at (l .output)) }
 
 -- where it is refused, that is printed, and no point is named
-pub fractured-refused : {t out : List ℕ} {r : Report} {after : List ℕ} {k p : ℕ} → verdict (textChecks t) ≡ refused k p → r ≡ record { answer = k; place = p; point = origin; read = length t; printed = length (refusalLine k p) } → after ≡ putAt out 0 (refusalLine k p) → Fractured t out r after
+pub fractured-refused : {t out : List ℕ} {r : Report} {after : List ℕ} {k p : ℕ} → verdict (textChecks t) ≡ refused k p → r ≡ record { answer = k; place = p; point = origin; read = length t; printed = length (refusalLine k p) } → after ≡ putAt out 0 (refusalLine k p) → ProgramDone t out r after
 unfolding programReport programPrints
 fractured-refused {t} e report output =
     let v = program-refused t e in

@@ -20,13 +20,15 @@ use Rattle.plane.proofs.Bools.{and-four}
 use Rattle.plane.proofs.Order.{add-up, mag-most, range-up, range-most}
 use Rattle.plane.proofs.Arrays.{points-flat}
 use Rattle.rule.specs.Rule.{ruleList}
-use Rattle.rule.specs.Table.{Check, whole, each, needs, Given, by-whole, by-item, by-need, FirstGiven, this, later, MANY, pointChecks, forwardChecks, Verdict, accepted, refused, verdict, ForwardAccepted}
+use Rattle.rule.specs.Checks.{Check, whole, each, needs, Given, by-whole, by-item, by-need, FirstGiven, this, later, Verdict, accepted, refused, verdict}
+use Rattle.rule.specs.Rows.{MANY, pointChecks}
+use Rattle.rule.specs.Answers.{forwardChecks, ForwardAccepted, forwardList}
 use Rattle.rule.proofs.Verdicts.{clear-exactly, refused-exactly}
 use Rattle.rule.proofs.Bound.{rule-most}
 use Rattle.rule.proofs.Rising.{rule-rects}
 use Rattle.rule.proofs.Area.{rule-area-most, rule-edge-fits}
 use Rattle.numerals.proofs.Printing.{decimal-length, signed-length}
-use Rattle.reading.specs.Lines.{Line, onto, linesOf, pointOf, withPoint, pointsIn}
+use Rattle.reading.specs.Lines.{Line, onto, linesOf, linePoint, withPoint, pointsIn}
 use Rattle.reading.specs.Reading.{pointsRead, textChecks}
 use Rattle.text.specs.Program.{mostWork, mostList, programChecks, sumsLine, rectLine, rectLines, listLines, printed, programPrints}
 use Rattle.text.proofs.Lines.{refusal-length}
@@ -62,10 +64,10 @@ rects-length [] h = omega arith
 rects-length (r ∷ rs) h = simp length-append (omega (arith, rect-length r (h r (head refl)), rects-length rs (λ s n. h s (tail n))))
 
 -- a list of what forward accepts with room for 3,200 rectangles
-pub list-fits : (a : List ℤ) (work : ℕ) → ForwardAccepted a work mostList → length (listLines (ruleList (pointsOf a))) ≤ 153_679
+pub list-fits : (a : List ℤ) (work : ℕ) → ForwardAccepted a work mostList → length (listLines (forwardList a)) ≤ 153_679
 unfolding listLines
 list-fits a work c =
-    let rs = ruleList (pointsOf a) in
+    let rs = forwardList a in
     let few : length rs ≤ 3200 = c .room in
     let sums = sums-length (length rs) (sum areaOf rs) (sum edgeOf rs) (omega arith) (omega (arith, rule-area-most (pointsOf a) (c .points))) (omega (arith, rule-edge-fits (pointsOf a) (c .points))) in
     let lines = rects-length rs (rule-rects (pointsOf a) (c .points) .range) in
@@ -110,7 +112,7 @@ lines-length (b ∷ bs) = go (eqb b 10) (lines-length bs)
 points-length : (ls : List Line) → length (pointsIn ls) ≤ length ls
 unfolding pointsIn
 points-length [] = omega arith
-points-length (l ∷ ls) = go (pointOf l) (points-length ls)
+points-length (l ∷ ls) = go (linePoint l) (points-length ls)
   where
     go : (o : Option Point) → length (pointsIn ls) ≤ length ls → length (withPoint o (pointsIn ls)) ≤ suc (length ls)
     go none h = omega arith

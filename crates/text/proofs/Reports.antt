@@ -10,11 +10,12 @@ use lib.Signed.{mag}
 use lib.Dec.{eqb, leb}
 use borrow.Author.Tests.{leb-true}
 use Rattle.plane.specs.declared.Point.{Point}
+use Rattle.plane.specs.Words.{pointAt}
 use Rattle.plane.proofs.Bools.{cond-case}
-use Rattle.rule.specs.Table.{pointAt, Verdict, accepted, refused, verdict}
+use Rattle.rule.specs.Checks.{Verdict, accepted, refused, verdict}
 use Rattle.rule.proofs.Verdicts.{refused-exactly}
 use Rattle.numerals.specs.Numerals.{minus, valueOf, asPlain, asNegative, numberOf}
-use Rattle.reading.specs.Lines.{Line, before, after, space, linesOf, pointFrom, pointOf, withPoint, pointsIn}
+use Rattle.reading.specs.Lines.{Line, beforeFirst, afterFirst, space, linesOf, pointFrom, linePoint, withPoint, pointsIn}
 use Rattle.reading.specs.Reading.{pointsRead}
 use Rattle.text.specs.Program.{programChecks, namesOne, offender, reportSays, programPrints, programReport}
 use Rattle.text.proofs.Checks.{program-number}
@@ -55,17 +56,17 @@ both-held none y h k = tt
 both-held (some x) none h k = tt
 both-held (some x) (some y) h k = (h, k)
 
-line-held : (l : Line) → BothHeld (pointOf l)
-unfolding pointOf
+line-held : (l : Line) → BothHeld (linePoint l)
+unfolding linePoint
 line-held l =
-    let xs = before space (l .bytes) in
-    let ys = after space (l .bytes) in
+    let xs = beforeFirst space (l .bytes) in
+    let ys = afterFirst space (l .bytes) in
     cond-case BothHeld (l .ended) (λ _. both-held (numberOf xs) (numberOf ys) (number-held xs) (number-held ys)) (λ _. tt)
 
 points-small : (ls : List Line) (i : ℕ) → Small (pointAt (pointsIn ls) i)
 unfolding pointsIn
 points-small [] i = omega arith
-points-small (l ∷ ls) i = go (pointOf l) (line-held l) (points-small ls) i
+points-small (l ∷ ls) i = go (linePoint l) (line-held l) (points-small ls) i
   where
     go : (o : Option Point) → BothHeld o → ((j : ℕ) → Small (pointAt (pointsIn ls) j)) → (i : ℕ) → Small (pointAt (withPoint o (pointsIn ls)) i)
     go none h rest i = rest i

@@ -8,9 +8,10 @@ use lib.Dec.{leb}
 use Rattle.plane.specs.declared.Point.{Point}
 use Rattle.plane.specs.declared.Rect.{Rect}
 use Rattle.plane.specs.Lists.{sum}
-use Rattle.plane.specs.Words.{origin, areaOf, edgeOf, flatPoints}
+use Rattle.plane.specs.Words.{origin, areaOf, edgeOf, flatPoints, pointAt, rectSize, mostPoints}
 use Rattle.rule.specs.Rule.{ruleList}
-use Rattle.rule.specs.Table.{Check, Verdict, accepted, refused, verdict, pointAt, forwardChecks}
+use Rattle.rule.specs.Checks.{Check, Verdict, accepted, refused, verdict}
+use Rattle.rule.specs.Answers.{forwardChecks}
 use Rattle.numerals.specs.Bytes.{ascii, putAt}
 use Rattle.numerals.specs.Numerals.{decimal, signed}
 use Rattle.reading.specs.Reading.{pointsRead, textChecks}
@@ -20,11 +21,11 @@ use Rattle.text.specs.declared.Report.{Report}
 
 -- the most numbers of a working array: two for each of 4,096 points
 abbrev pub mostWork : ℕ
-mostWork = 2 * 4096
+mostWork = 2 * mostPoints
 
 -- the most numbers of a list: four for each of 3,200 rectangles
 abbrev pub mostList : ℕ
-mostList = 4 * 3200
+mostList = rectSize * 3200
 
 -- MANY for bytes, TEXT, MANY for lines, then the forward checks with room for 3,200 rectangles
 unfoldable pub programChecks : List ℕ → List Check
@@ -82,6 +83,6 @@ unfoldable pub programReport : List ℕ → Report
 programReport t = reportSays (verdict (programChecks t)) (pointsRead t) (length t) (length (programPrints t))
 
 -- the program on slices, of a text and an output: its report, and the output afterwards, which holds what is printed if that has room
-pub record Fractured (t out : List ℕ) (r : Report) (out-after : List ℕ) : Type 0 where
+pub record ProgramDone (t out : List ℕ) (r : Report) (out-after : List ℕ) : Type 0 where
   pub report : r ≡ programReport t
   pub output : out-after ≡ putAt out 0 (programPrints t)

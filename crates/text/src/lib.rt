@@ -2,10 +2,10 @@
 ghost use Prim.Native.Nat.{_+_, _*_, _≤_};
 ghost use mathlib.Core.Path.{_≡_};
 ghost use lib.ListN.{length, take};
-ghost use Rattle.plane.specs.Words.{origin, pointsOf, rectsOf};
+ghost use Rattle.plane.specs.Words.{origin, pointsOf, rectsOf, rectSize};
 ghost use Rattle.numerals.specs.Bytes.{putAt, Put};
 ghost use Rattle.numerals.specs.Inner.{Wrote};
-ghost use Rattle.text.specs.Program.{sumsLine, rectLine, rectLines, refusalLine, namesOne, offender, Fractured};
+ghost use Rattle.text.specs.Program.{sumsLine, rectLine, rectLines, refusalLine, namesOne, offender, ProgramDone};
 ghost use Rattle.text.specs.Sentences.{manySays, namesPoint, pointFault, roomSays, textSays, sentence};
 ghost use Rattle.text.specs.Inner.{worded, field, listed, Listed};
 use numerals::put_bytes;
@@ -15,8 +15,8 @@ use panbuckle::ForwardAnswer;
 use panbuckle::Point;
 use panbuckle::Rect;
 use panbuckle::forward;
-use places::point_at;
-use places::rect_at;
+use plane::point_at;
+use plane::rect_at;
 use reading::MOST_BYTES;
 use reading::read_points;
 use rule::COLUMN;
@@ -96,7 +96,7 @@ fn put_rect(out: &mut [u8], at: usize, r: Rect) -> usize
 
 // The lines of the first n rectangles.
 fn put_rects(out: &mut [u8], at: usize, rects: &[i32], n: usize) -> usize
-    requires { ⌜ 4 * n ≤ length (now rects) ⌝ }
+    requires { ⌜ rectSize * n ≤ length (now rects) ⌝ }
     requires { ⌜ at + length (rectLines (take n (rectsOf (now rects)))) ≤ length (now out) ⌝ }
     ensures { λ r. ⌜ Wrote (now (out .entry)) at (rectLines (take n (rectsOf (now (rects .entry))))) r (now (out .exit)) ⌝ }
 {
@@ -158,7 +158,7 @@ fn reported(answer: u32, place: u64, point: Point, read: usize, printed: usize) 
 
 // Prints a list by way of a buffer with room for it, and gives how many bytes it has.
 fn print_through(lines: &mut [u8], out: &mut [u8], sums: ForwardAnswer, rects: &[i32]) -> usize
-    requires { ⌜ 4 * sums .count ≤ length (now rects) ⌝ }
+    requires { ⌜ rectSize * sums .count ≤ length (now rects) ⌝ }
     requires { ⌜ length (listed sums (now rects)) ≤ length (now lines) ⌝ }
     ensures { λ r. ⌜ r ≡ length (listed sums (now (rects .entry))) ⌝ }
     ensures { λ r. ⌜ now (out .exit) ≡ putAt (now (out .entry)) 0 (listed sums (now (rects .entry))) ⌝ }
@@ -171,7 +171,7 @@ fn print_through(lines: &mut [u8], out: &mut [u8], sums: ForwardAnswer, rects: &
 
 // Prints a list, and gives how many bytes it has.
 fn print_list(out: &mut [u8], sums: ForwardAnswer, rects: &[i32]) -> usize
-    requires { ⌜ 4 * sums .count ≤ length (now rects) ⌝ }
+    requires { ⌜ rectSize * sums .count ≤ length (now rects) ⌝ }
     requires { ⌜ length (listed sums (now rects)) ≤ 153_679 ⌝ }
     ensures { λ r. ⌜ r ≡ length (listed sums (now (rects .entry))) ⌝ }
     ensures { λ r. ⌜ now (out .exit) ≡ putAt (now (out .entry)) 0 (listed sums (now (rects .entry))) ⌝ }
@@ -203,7 +203,7 @@ fn list(points: &[i32], read: usize, out: &mut [u8]) -> Report
 
 // What the program prints for an input, put into `out` if it has room there, and what it knows at its end.
 pub fn answer(input: &[u8], out: &mut [u8]) -> Report
-    ensures { λ r. ⌜ Fractured (now (input .entry)) (now (out .entry)) r (now (out .exit)) ⌝ }
+    ensures { λ r. ⌜ ProgramDone (now (input .entry)) (now (out .entry)) r (now (out .exit)) ⌝ }
 {
     let mut points: [i32; 8192] = [0; 8192];
     let r = read_points(input, &mut points);

@@ -4,7 +4,7 @@ use mathlib.Core.Path.{_≡_, _∙_}
 use lib.ListN.{length, replicate, length-replicate}
 use lib.IntN.{pos}
 use borrow.Author.Needs.{needs}
-use Rattle.panbuckle.specs.Contracts.{ForwardDone}
+use Rattle.rule.specs.Answers.{ForwardDone}
 use Rattle.panbuckle.proofs.Kept.{lengths-kept}
 use Rattle.text.specs.Program.{mostWork, mostList}
 use Rattle.drawing.proofs.Shown.{list-small, Made, list-made, svg-made}

@@ -5,9 +5,8 @@ use native.Mathlib.Omega.{arith}
 use mathlib.Core.Path.{_≡_, refl, _∙_}
 use lib.ListN.{length, take}
 use borrow.Author.Needs.{needs}
-use Rattle.plane.specs.Words.{rectsOf}
+use Rattle.plane.specs.Words.{rectsOf, rectAt}
 use Rattle.plane.proofs.Arrays.{length-rects}
-use Rattle.rule.specs.Table.{rectAt}
 use Rattle.numerals.specs.Inner.{Wrote}
 use Rattle.numerals.proofs.Writing.{wrote-nothing, wrote-then}
 use Rattle.drawing.specs.Plan.{boxOf}

@@ -6,9 +6,8 @@ use mathlib.Core.Path.{_≡_, refl, sym, _∙_}
 use lib.ListN.{length, take}
 use lib.Seq.{take-length}
 use borrow.Author.Needs.{needs}
-use Rattle.plane.specs.Words.{pointsOf}
+use Rattle.plane.specs.Words.{pointsOf, pointAt}
 use Rattle.plane.proofs.Arrays.{length-points}
-use Rattle.rule.specs.Table.{pointAt}
 use Rattle.numerals.specs.Inner.{Wrote}
 use Rattle.numerals.proofs.Writing.{wrote-nothing, wrote-then}
 use Rattle.drawing.specs.Picture.{dots}

@@ -7,7 +7,9 @@ use lib.ListN.{length}
 use lib.Dec.{eqb, ltb}
 use borrow.Author.Needs.{needs}
 use borrow.Author.Tests.{lt-ltb, le-ltb, eq-eqb, ne-eqb}
-use Rattle.rule.specs.Table.{backwardChecks, verdict}
+use Rattle.plane.specs.Words.{rectSize, mostRects}
+use Rattle.rule.specs.Answers.{backwardChecks}
+use Rattle.rule.specs.Checks.{verdict}
 use Rattle.rule.proofs.Verdicts.{accepted-clear}
 use Rattle.rule.proofs.Refusals.{backward-accepted}
 use Rattle.outline.proofs.Checks.{lastTwo, backward-verdict, refused-done}
@@ -17,20 +19,20 @@ use Rattle.outline.proofs.backward.Tie as tie
 returns : tie.Need-returns
 returns c =
     let a = c .before .before .args .rects .now in
-    refused-done (c .no-points .ensures) (rw (backward-verdict, ne-eqb (length a % 4) 0 (c .before .if1 .taken)))
+    refused-done (c .no-points .ensures) (rw (backward-verdict, ne-eqb (length a % rectSize) 0 (c .before .if1 .taken)))
 
 -- past LENGTH
-past-one : (c : tie.Else1) → eqb (length (c .before .args .rects .now) % 4) 0 ≡ true
-past-one c = eq-eqb (length (c .before .args .rects .now) % 4) 0 (c .if1 .left)
+past-one : (c : tie.Else1) → eqb (length (c .before .args .rects .now) % rectSize) 0 ≡ true
+past-one c = eq-eqb (length (c .before .args .rects .now) % rectSize) 0 (c .if1 .left)
 
 returns-2 : tie.Need-returns-2
 returns-2 c =
     let a = c .before .before .before .args .rects .now in
-    refused-done (c .no-points2 .ensures) (rw (backward-verdict, past-one (c .before .before), lt-ltb 16384 (length a / 4) (c .before .if2 .taken)))
+    refused-done (c .no-points2 .ensures) (rw (backward-verdict, past-one (c .before .before), lt-ltb mostRects (length a / rectSize) (c .before .if2 .taken)))
 
 -- past MANY
-past-two : (c : tie.Else2) → ltb 16384 (length (c .before .before .args .rects .now) / 4) ≡ false
-past-two c = le-ltb 16384 (length (c .before .before .args .rects .now) / 4) (c .if2 .left)
+past-two : (c : tie.Else2) → ltb mostRects (length (c .before .before .args .rects .now) / rectSize) ≡ false
+past-two c = le-ltb mostRects (length (c .before .before .args .rects .now) / rectSize) (c .if2 .left)
 
 returns-3 : tie.Need-returns-3
 returns-3 c =

@@ -3,17 +3,17 @@ use Prim.Native.Nat.{_≤_, _-_}
 use native.Mathlib.Omega.{arith}
 use mathlib.Core.Path.{_≡_, ap, sym, _∙_}
 use borrow.Author.Needs.{needs}
-use Rattle.plane.specs.Words.{rectsOf}
+use Rattle.plane.specs.Words.{rectsOf, rectAt}
 use Rattle.plane.proofs.Arrays.{length-rects}
-use Rattle.rule.specs.Table.{rectAt, placeGiven}
+use Rattle.rule.specs.Checks.{placeGiven}
 use Rattle.rule.proofs.Verdicts.{NoneBelow, none-below-next}
 use Rattle.rule.proofs.Search.{found, none-found}
-use Rattle.outline.specs.Inner.{offends}
+use Rattle.outline.specs.Inner.{rectOffends}
 use Rattle.outline.proofs.first_bad.Statement.{statement}
 use Rattle.outline.proofs.first_bad.Tie as tie
 
 abbrev Inv-loop : tie.InvT-loop
-Inv-loop rects number n i₀ i = (i ≤ n) × NoneBelow i (λ j. offends number (rectAt (rectsOf rects) j))
+Inv-loop rects number n i₀ i = (i ≤ n) × NoneBelow i (λ j. rectOffends number (rectAt (rectsOf rects) j))
 
 abbrev μ-loop : tie.MeasureT-loop
 μ-loop rects number n i₀ i = n - i
@@ -22,8 +22,8 @@ loop-holds : tie.Need-loop-holds Inv-loop μ-loop
 loop-holds c = (search needs, λ j h. absurd (omega arith))
 
 -- the test of this turn is whether the rectangle at place i offends
-tested : (c : tie.After-is-bad Inv-loop μ-loop) → let l = c .before .before .before in let r = l .before .args in offends (r .number) (rectAt (rectsOf (r .rects .now)) (l .loop .i)) ≡ c .is-bad .result
-tested c = sym (c .is-bad .ensures ∙ ap (offends (c .before .before .before .before .args .number)) (c .before .rect-at .ensures))
+tested : (c : tie.After-is-bad Inv-loop μ-loop) → let l = c .before .before .before in let r = l .before .args in rectOffends (r .number) (rectAt (rectsOf (r .rects .now)) (l .loop .i)) ≡ c .is-bad .result
+tested c = sym (c .is-bad .ensures ∙ ap (rectOffends (c .before .before .before .before .args .number)) (c .before .rect-at .ensures))
 
 returns : tie.Need-returns Inv-loop μ-loop
 unfolding placeGiven

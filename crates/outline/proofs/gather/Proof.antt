@@ -5,11 +5,10 @@ use mathlib.Core.Path.{_≡_, refl, _∙_}
 use mathlib.Core.List.{List·Memᴰ as In}
 use lib.ListN.{length, take, drop, drop-of-length-le}
 use borrow.Author.Needs.{needs}
-use Rattle.plane.specs.Words.{rectsOf}
+use Rattle.plane.specs.Words.{rectsOf, rectAt}
 use Rattle.plane.proofs.Arrays.{length-rects}
 use Rattle.plane.proofs.Places.{in-at}
 use Rattle.rule.specs.Back.{corners}
-use Rattle.rule.specs.Table.{rectAt}
 use Rattle.outline.specs.Inner.{keysOf, mostKeys, Gathers}
 use Rattle.outline.proofs.Batches.{gathers-none, keys-next, gathered}
 use Rattle.outline.proofs.gather.Statement.{statement}

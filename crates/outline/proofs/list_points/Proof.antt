@@ -15,8 +15,8 @@ use Rattle.plane.specs.Words.{rectsOf, flatPoints}
 use Rattle.plane.proofs.Bools.{cond-case, cond-true, cond-false}
 use Rattle.plane.proofs.Arrays.{length-rects}
 use Rattle.rule.specs.Back.{backList}
-use Rattle.rule.specs.Table.{accepted}
 use Rattle.rule.specs.Answers.{written}
+use Rattle.rule.specs.Checks.{accepted}
 use Rattle.rule.proofs.Backward.{back-length}
 use Rattle.outline.specs.Inner.{endOfKeys, batchOf}
 use Rattle.outline.proofs.Batches.{batch-few, batch-none, answer-all, batch-are-keys, batch-listed, batch-written}

@@ -14,8 +14,8 @@ use Rattle.plane.specs.Words.{flatPoints}
 use Rattle.plane.proofs.Arrays.{flat-append, length-flat-points}
 use Rattle.plane.proofs.Places.{in-at}
 use Rattle.plane.proofs.Bits.{back}
-use Rattle.rule.specs.Table.{accepted}
 use Rattle.rule.specs.Answers.{written}
+use Rattle.rule.specs.Checks.{accepted}
 use Rattle.rule.proofs.Memory.{written-more}
 use Rattle.outline.specs.Inner.{pointOf, pointsAt, isKey, AreKeys}
 use Rattle.outline.proofs.put_points.Statement.{statement}

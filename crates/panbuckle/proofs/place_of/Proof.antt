@@ -3,8 +3,7 @@ use Prim.Native.Nat.{_≤_, _-_}
 use native.Mathlib.Omega.{arith}
 use mathlib.Core.Path.{_≡_, sym, _∙_}
 use borrow.Author.Needs.{needs}
-use Rattle.plane.specs.Words.{same}
-use Rattle.rule.specs.Table.{pointAt}
+use Rattle.plane.specs.Words.{same, pointAt}
 use Rattle.rule.proofs.Verdicts.{NoneBelow, none-below-next}
 use Rattle.rule.proofs.Toggle.{place-first}
 use Rattle.panbuckle.specs.Inner.{held}

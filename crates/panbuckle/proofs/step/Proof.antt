@@ -1,8 +1,8 @@
 -- `panbuckle::step` meets its contract. A clear screen means accepted points, whose step is `take_rectangle`'s; a refusal leaves all as it was.
 use borrow.Author.Needs.{needs}
 use mathlib.Core.Path.{sym, _∙_}
-use Rattle.rule.specs.Table.{verdict, stepChecks}
-use Rattle.rule.specs.Answers.{stepAnswer, stepWork}
+use Rattle.rule.specs.Answers.{stepAnswer, stepWork, stepChecks}
+use Rattle.rule.specs.Checks.{verdict}
 use Rattle.rule.proofs.Refusals.{step-accepted}
 use Rattle.checks.proofs.Screens.{screen-clear, screen-refused}
 use Rattle.panbuckle.proofs.step.Statement.{statement}

@@ -4,7 +4,7 @@ use native.Mathlib.Omega.{arith}
 use mathlib.Core.Path.{_≡_, sym, _∙_}
 use lib.ListN.{length}
 use borrow.Author.Needs.{needs}
-use Rattle.rule.specs.Table.{by-item}
+use Rattle.rule.specs.Checks.{by-item}
 use Rattle.rule.proofs.Verdicts.{NoneBelow, none-below-next, place-given, place-clear}
 use Rattle.reading.specs.Lines.{linesOf, lineAt, isBad}
 use Rattle.reading.specs.Inner.{linesCheck}

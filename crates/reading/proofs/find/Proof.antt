@@ -4,13 +4,13 @@ use native.Mathlib.Omega.{arith}
 use mathlib.Core.Path.{_≡_}
 use lib.ListN.{length, drop, length-drop}
 use borrow.Author.Needs.{needs}
-use Rattle.reading.specs.Lines.{before}
+use Rattle.reading.specs.Lines.{beforeFirst}
 use Rattle.reading.proofs.Lines.{before-here, before-next, before-most}
 use Rattle.reading.proofs.find.Statement.{statement}
 use Rattle.reading.proofs.find.Tie as tie
 
 abbrev Inv-loop : tie.InvT-loop
-Inv-loop bytes c i₀ i = (i ≤ length bytes) × (i + length (before c (drop i bytes)) ≡ length (before c bytes))
+Inv-loop bytes c i₀ i = (i ≤ length bytes) × (i + length (beforeFirst c (drop i bytes)) ≡ length (beforeFirst c bytes))
 
 abbrev μ-loop : tie.MeasureT-loop
 μ-loop bytes c i₀ i = length bytes - i

@@ -14,7 +14,7 @@ use Rattle.numerals.specs.Numerals.{numberOf}
 use Rattle.reading.specs.declared.Parsed.{Parsed}
 use Rattle.reading.specs.declared.Parsed.the-variants.{Good, None}
 use Rattle.reading.specs.declared.LineRead.the-variants.{Read, Unread}
-use Rattle.reading.specs.Lines.{newline, space, before, after, pointFrom, pointOf}
+use Rattle.reading.specs.Lines.{newline, space, beforeFirst, afterFirst, pointFrom, linePoint}
 use Rattle.reading.specs.Inner.{parsed, lineSays, nextLine, lineFrom}
 use Rattle.reading.proofs.Lines.{firstLine, first-line, take-before, part-rest}
 use Rattle.reading.proofs.read_line.Statement.{statement}
@@ -29,29 +29,29 @@ says-none : (o : Option Point) (n : ℕ) → parsed o ≡ None → Unread ≡ li
 says-none none n e = refl
 says-none (some q) n e = let z : _≡_ {A = ℕ} 0 1 = cc in absurd (omega arith)
 
-module _ (t : List ℕ) (at end : ℕ) (h : at < length t) (e : end ≡ length (before newline (take (length t - at) (drop at t)))) where
+module _ (t : List ℕ) (at end : ℕ) (h : at < length t) (e : end ≡ length (beforeFirst newline (take (length t - at) (drop at t)))) where
   -- what is read is the first line of what comes from the place on
-  read-first : lineFrom t at ≡ lineSays (pointOf (firstLine (drop at t))) (nextLine t at)
+  read-first : lineFrom t at ≡ lineSays (linePoint (firstLine (drop at t))) (nextLine t at)
   read-first = rw (first-line (drop at t) (omega (arith, length-drop at t)))
 
   -- it ends where the code found
-  end-first : length (before newline (drop at t)) ≡ end
+  end-first : length (beforeFirst newline (drop at t)) ≡ end
   end-first = rw part-rest at (sym e)
 
   unended : end ≡ length t - at → Unread ≡ lineFrom t at
-  unfolding pointOf
-  unended l = rw (read-first, le-ltb (length (before newline (drop at t))) (length (drop at t)) (omega (arith, length-drop at t, end-first)))
+  unfolding linePoint
+  unended l = rw (read-first, le-ltb (length (beforeFirst newline (drop at t))) (length (drop at t)) (omega (arith, length-drop at t, end-first)))
 
-  module _ (l : end < length t - at) {r : Parsed} (d : let line = take end (take (length t - at) (drop at t)) in r ≡ parsed (pointFrom (numberOf (before space line)) (numberOf (after space line)))) where
-    point-first : r ≡ parsed (pointOf (firstLine (drop at t)))
-    unfolding pointOf
-    point-first = d ∙ rw (part-rest, ← end-first, take-before, lt-ltb (length (before newline (drop at t))) (length (drop at t)) (omega (arith, length-drop at t, end-first)))
+  module _ (l : end < length t - at) {r : Parsed} (d : let line = take end (take (length t - at) (drop at t)) in r ≡ parsed (pointFrom (numberOf (beforeFirst space line)) (numberOf (afterFirst space line)))) where
+    point-first : r ≡ parsed (linePoint (firstLine (drop at t)))
+    unfolding linePoint
+    point-first = d ∙ rw (part-rest, ← end-first, take-before, lt-ltb (length (beforeFirst newline (drop at t))) (length (drop at t)) (omega (arith, length-drop at t, end-first)))
 
     good : {p : Point} → r ≡ Good p → Read p (at + (end + 1)) ≡ lineFrom t at
-    good g = rw (read-first, ← end-first, add-one) (says-good (pointOf (firstLine (drop at t))) _ (sym point-first ∙ g))
+    good g = rw (read-first, ← end-first, add-one) (says-good (linePoint (firstLine (drop at t))) _ (sym point-first ∙ g))
 
     bad : r ≡ None → Unread ≡ lineFrom t at
-    bad g = rw read-first (says-none (pointOf (firstLine (drop at t))) (nextLine t at) (sym point-first ∙ g))
+    bad g = rw read-first (says-none (linePoint (firstLine (drop at t))) (nextLine t at) (sym point-first ∙ g))
 
 returns : tie.Need-returns
 returns c =

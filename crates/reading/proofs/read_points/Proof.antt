@@ -8,7 +8,8 @@ use lib.ListN.{length}
 use lib.Dec.{ltb}
 use borrow.Author.Needs.{needs}
 use borrow.Author.Tests.{lt-ltb, le-ltb}
-use Rattle.rule.specs.Table.{placeGiven, verdict, accepted, refused}
+use Rattle.plane.specs.Words.{mostPoints}
+use Rattle.rule.specs.Checks.{placeGiven, verdict, accepted, refused}
 use Rattle.rule.proofs.Verdicts.{place-clear}
 use Rattle.reading.specs.Lines.{linesOf}
 use Rattle.reading.specs.Reading.{readChecks}
@@ -43,17 +44,17 @@ no-bad c =
     all-good (placeGiven (linesCheck t)) (length (linesOf t)) (sym (k .check-lines .ensures) ∙ n .count .given .1)
 
 -- and the last two checks say all
-past-two : (c : tie.After-known-told2) (out : ℕ) → let n = c .before in let t = n .before .before .before .before .before .args .text .now in verdict (readChecks t out) ≡ cond (ltb 4096 (length (linesOf t))) (refused 2 0) (cond (ltb (out / 2) (length (linesOf t))) (refused 8 (length (linesOf t))) accepted)
+past-two : (c : tie.After-known-told2) (out : ℕ) → let n = c .before in let t = n .before .before .before .before .before .args .text .now in verdict (readChecks t out) ≡ cond (ltb mostPoints (length (linesOf t))) (refused 2 0) (cond (ltb (out / 2) (length (linesOf t))) (refused 8 (length (linesOf t))) accepted)
 past-two c out = rw (read-verdict, past-one (c .before .before .before .before), no-bad c .0)
 
 returns-2 : tie.Need-returns-2
 returns-2 c =
     let i = c .before in
-    refused-done (c .unread3 .ensures) (rw (past-two (i .before), no-bad (i .before) .1, lt-ltb 4096 (i .before .before .count .given .0 .0) (omega arith)))
+    refused-done (c .unread3 .ensures) (rw (past-two (i .before), no-bad (i .before) .1, lt-ltb mostPoints (i .before .before .count .given .0 .0) (omega arith)))
 
 -- past MANY for lines
 past-three : (c : tie.Else2) (out : ℕ) → let n = c .before .before in let t = n .before .before .before .before .before .args .text .now in verdict (readChecks t out) ≡ cond (ltb (out / 2) (n .count .given .0 .0)) (refused 8 (n .count .given .0 .0)) accepted
-past-three c out = rw (past-two (c .before), no-bad (c .before) .1, le-ltb 4096 (c .before .before .count .given .0 .0) (omega arith))
+past-three c out = rw (past-two (c .before), no-bad (c .before) .1, le-ltb mostPoints (c .before .before .count .given .0 .0) (omega arith))
 
 returns-3 : tie.Need-returns-3
 returns-3 c =

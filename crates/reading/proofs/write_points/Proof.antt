@@ -13,8 +13,8 @@ use Rattle.plane.specs.Words.{flatPoints}
 use Rattle.plane.proofs.Arrays.{flat-append, length-flat-points}
 use Rattle.plane.proofs.Bits.{back}
 use Rattle.plane.proofs.Bools.{clash}
-use Rattle.rule.specs.Table.{accepted}
 use Rattle.rule.specs.Answers.{written}
+use Rattle.rule.specs.Checks.{accepted}
 use Rattle.rule.proofs.Memory.{written-more}
 use Rattle.rule.proofs.Verdicts.{place-clear}
 use Rattle.reading.specs.Lines.{linesOf, pointsIn}

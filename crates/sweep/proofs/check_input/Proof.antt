@@ -10,7 +10,7 @@ use borrow.Author.Needs.{needs}
 use borrow.Author.Tests.{lt-ltb, le-ltb, eq-eqb, ne-eqb}
 use Rattle.plane.specs.Words.{pointsOf}
 use Rattle.plane.proofs.Arrays.{length-points}
-use Rattle.rule.specs.Table.{accepted, refused, verdict}
+use Rattle.rule.specs.Checks.{accepted, refused, verdict}
 use Rattle.rule.proofs.Verdicts.{verdict-whole}
 use Rattle.rule.proofs.Refusals.{accepted-points}
 use Rattle.checks.specs.Screens.{screenOf, orderChecks, rowOrder, orderLeft}

@@ -8,10 +8,8 @@ use lib.ListN.{length}
 use lib.IntN.{ℤ}
 use borrow.Author.Needs.{needs}
 use Rattle.plane.specs.declared.Rect.{Rect}
-use Rattle.plane.specs.Words.{pointsOf}
 use Rattle.plane.proofs.Bools.{clash}
-use Rattle.rule.specs.Rule.{ruleList}
-use Rattle.rule.specs.Answers.{forwardAnswer, forwardWork, forwardOut}
+use Rattle.rule.specs.Answers.{forwardAnswer, forwardWork, forwardOut, forwardList}
 use Rattle.rule.proofs.Refusals.{accepted-with-room, forward-accepted, forward-lacks-room}
 use Rattle.sweep.specs.Inner.{KeptPast}
 use Rattle.sweep.proofs.Kept.{kept-on, kept-drained}
@@ -27,7 +25,7 @@ abbrev work : tie.Start → List ℤ
 work s = s .args .work .now
 
 abbrev rects : tie.Start → List Rect
-rects s = ruleList (pointsOf (points s))
+rects s = forwardList (points s)
 
 -- the order has as many places as there are points
 many : (s : tie.Start) → length (s .args .order .now) ≡ length (points s) / 2

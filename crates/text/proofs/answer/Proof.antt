@@ -5,7 +5,7 @@ use lib.ListN.{replicate, length-replicate}
 use lib.Seq.{length-take-le}
 use lib.IntN.{pos}
 use borrow.Author.Needs.{needs}
-use Rattle.rule.specs.Table.{verdict, refused}
+use Rattle.rule.specs.Checks.{verdict, refused}
 use Rattle.reading.specs.Reading.{textChecks, ReadDone}
 use Rattle.reading.proofs.Kept.{AllRead, read-done, read-refused}
 use Rattle.text.proofs.Listing.{fractured-listed, fractured-refused}

@@ -7,9 +7,8 @@ use mathlib.Core.List.{List, _++_}
 use lib.ListN.{length, take}
 use borrow.Author.Needs.{needs}
 use Rattle.plane.specs.declared.Rect.{Rect}
-use Rattle.plane.specs.Words.{rectsOf}
+use Rattle.plane.specs.Words.{rectsOf, rectAt}
 use Rattle.plane.proofs.Arrays.{length-rects}
-use Rattle.rule.specs.Table.{rectAt}
 use Rattle.numerals.specs.Inner.{Wrote}
 use Rattle.text.specs.Program.{rectLine, rectLines}
 use Rattle.numerals.proofs.Writing.{wrote-nothing, wrote-length, wrote-then, room-first, room-then}

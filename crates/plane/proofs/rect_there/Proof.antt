@@ -1,13 +1,13 @@
--- `outline::rect_at` meets its contract.
+-- `plane::rect_there` meets its contract.
 use borrow.Author.Needs.{needs}
 use Rattle.plane.proofs.Arrays.{rect-numbers}
-use Rattle.outline.proofs.rect_at.Statement.{statement}
-use Rattle.outline.proofs.rect_at.Tie as tie
+use Rattle.plane.proofs.rect_there.Statement.{statement}
+use Rattle.plane.proofs.rect_there.Tie as tie
 
 returns : tie.Need-returns
 returns c = search (needs, rect-numbers)
 
-pub rect-at-spec : {M : Type 1} → statement M
-rect-at-spec =
+pub rect-there-spec : {M : Type 1} → statement M
+rect-there-spec =
     tie.close
     (tie.spec (λ c. search needs) (λ c. search needs) (λ c. search needs) (λ c. search needs) (λ c. search needs) (λ c. search needs) (λ c. search needs) (λ c. search needs) (λ c. search needs) (λ c. search needs) (λ c. search needs) (λ c. search needs) (λ c. search needs) (λ c. search needs) (λ c. search needs) returns)

@@ -1,8 +1,8 @@
--- `places::point_there` meets its contract.
+-- `plane::point_there` meets its contract.
 use borrow.Author.Needs.{needs}
 use Rattle.plane.proofs.Arrays.{point-numbers}
-use Rattle.places.proofs.point_there.Statement.{statement}
-use Rattle.places.proofs.point_there.Tie as tie
+use Rattle.plane.proofs.point_there.Statement.{statement}
+use Rattle.plane.proofs.point_there.Tie as tie
 
 returns : tie.Need-returns
 returns c = search (needs, point-numbers)

@@ -1,34 +1,16 @@
--- What the public functions promise, for every input: the answer, and what each lent array holds afterwards, as
--- definitions of what was given.
+-- Calls of the library one after another: steps until none is left, and backward and then forward.
 use Prim.Native.Nat.{ℕ, _*_, _/_, _≤_}
 use mathlib.Core.Path.{_≡_}
 use mathlib.Core.List.{List, [], _∷_, _++_}
 use lib.ListN.{length, take, drop}
 use lib.IntN.{ℤ}
 use Rattle.plane.specs.declared.Rect.{Rect}
-use Rattle.plane.specs.Words.{pointsOf, rectsOf}
+use Rattle.plane.specs.Words.{mostPoints, rectSize}
 use Rattle.rule.specs.declared.ForwardAnswer.{ForwardAnswer}
 use Rattle.rule.specs.declared.BackwardAnswer.{BackwardAnswer}
 use Rattle.rule.specs.declared.StepAnswer.{StepAnswer}
 use Rattle.rule.specs.declared.StepAnswer.the-variants.{Rectangle, Refused}
-use Rattle.rule.specs.Rule.{ruleList}
-use Rattle.rule.specs.Answers.{forwardAnswer, forwardWork, forwardOut, stepAnswer, stepWork}
-use Rattle.outline.specs.Contracts.{BackwardDone}
-
--- forward, of an array, a working array and an output: its answer, and the two lent arrays afterwards
-pub record ForwardDone (a work out : List ℤ) (r : ForwardAnswer) (work-after out-after : List ℤ) : Type 0 where
-  pub answer : r ≡ forwardAnswer a (length work) (length out)
-  pub working : work-after ≡ forwardWork a work (length out)
-  pub output : out-after ≡ forwardOut a (length work) out
-
--- the list as the caller reads it: as many rectangles as the answer counts, from the start of the output
-abbrev pub listOf : ForwardAnswer → (out : List ℤ) → List Rect
-listOf r out = take (r .count) (rectsOf out)
-
--- a step, of a working array and a count of points: its answer, and the working array afterwards
-pub record StepDone (work : List ℤ) (n : ℕ) (r : StepAnswer) (work-after : List ℤ) : Type 0 where
-  pub answer : r ≡ stepAnswer work n
-  pub working : work-after ≡ stepWork work n
+use Rattle.rule.specs.Answers.{forwardList, ForwardDone, listOf, BackwardDone, StepDone}
 
 -- ---- Calls of step, one after another
 
@@ -38,7 +20,7 @@ copied a work = take (2 * (length a / 2)) a ++ drop (2 * (length a / 2)) work
 
 -- calls of step on a working array with n points, until one answers DRAINED: their rectangles, and the array after the last
 pub data Stepped : (work : List ℤ) (n : ℕ) → List Rect → (work-after : List ℤ) → Type 0 where
-  drained : {work : List ℤ} {n : ℕ} {work-after : List ℤ} → StepDone work n (Refused 10 0) work-after → Stepped work n [] work-after
+  emptied : {work : List ℤ} {n : ℕ} {work-after : List ℤ} → StepDone work n (Refused 10 0) work-after → Stepped work n [] work-after
   another : {work : List ℤ} {n : ℕ} {r : Rect} {m : ℕ} {between : List ℤ} {rs : List Rect} {work-after : List ℤ} → StepDone work n (Rectangle r m) between → Stepped between m rs work-after → Stepped work n (r ∷ rs) work-after
 
 -- calls of step on a working array with n points that each answer a rectangle: the array and the count that they reach
@@ -55,7 +37,7 @@ pub record BackThenForward (a : List ℤ) : Type 0 where
   pub points-after : List ℤ
   pub back : BackwardDone a points said points-after
   pub done : said .answer ≡ 0
-  pub few : said .count ≤ 4096
+  pub few : said .count ≤ mostPoints
   pub work : List ℤ
   pub out : List ℤ
   pub answer : ForwardAnswer
@@ -63,7 +45,7 @@ pub record BackThenForward (a : List ℤ) : Type 0 where
   pub out-after : List ℤ
   pub forth : ForwardDone (take (2 * said .count) points-after) work out answer work-after out-after
   pub working : 2 * said .count ≤ length work
-  pub room : length (ruleList (pointsOf (take (2 * said .count) points-after))) ≤ length out / 4
+  pub room : length (forwardList (take (2 * said .count) points-after)) ≤ length out / rectSize
 
 -- the forward list, as the caller reads it
 abbrev pub listAfter : {a : List ℤ} → BackThenForward a → List Rect

@@ -1,12 +1,12 @@
--- `places::point_at` meets its contract: past the points there is (0, 0).
+-- `plane::point_at` meets its contract: past the points there is (0, 0).
 use native.Mathlib.Omega.{arith}
 use mathlib.Core.Path.{sym, _∙_}
 use lib.ListN.{List·getD-eq-default}
 use borrow.Author.Needs.{needs}
 use Rattle.plane.specs.Words.{origin, pointsOf}
 use Rattle.plane.proofs.Arrays.{length-points}
-use Rattle.places.proofs.point_at.Statement.{statement}
-use Rattle.places.proofs.point_at.Tie as tie
+use Rattle.plane.proofs.point_at.Statement.{statement}
+use Rattle.plane.proofs.point_at.Tie as tie
 
 returns-2 : tie.Need-returns-2
 returns-2 c = let a = c .before .before .args .a .now in c .no-point .ensures ∙ sym (List·getD-eq-default (pointsOf a) origin (omega (arith, length-points a)))

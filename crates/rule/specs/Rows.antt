@@ -1,0 +1,81 @@
+-- The rows of document 01's table of refusals, and what is accepted of points and rectangles where none of theirs is given.
+use Prim.Native.Nat.{ℕ, _*_, _%_, _≤_}
+use mathlib.Core.Path.{_≡_}
+use mathlib.Core.Bool.{Bool, true, false, not}
+use mathlib.Core.List.{List, [], _∷_, List·Memᴰ as In}
+use lib.ListN.{length, take}
+use lib.IntN.{ℤ}
+use lib.Dec.{ltb, eqb}
+use Rattle.plane.specs.declared.Point.{Point}
+use Rattle.plane.specs.declared.Rect.{Rect}
+use Rattle.plane.specs.Lists.{any, odd, count}
+use Rattle.plane.specs.Words.{pointAt, same, onRow, inColumn, pointInRange, rectAt, rectInRange, flat}
+use Rattle.rule.specs.Checks.{Check, whole, each, needs}
+
+-- ---- The rows
+
+-- 1 LENGTH: the array's length is not a multiple of the numbers to an item
+abbrev pub LENGTH : (numbers item : ℕ) → Check
+LENGTH numbers item = whole 1 (not (eqb (numbers % item) 0))
+
+-- 2 MANY: over the most items
+abbrev pub MANY : (most items : ℕ) → Check
+MANY most items = whole 2 (ltb most items)
+
+-- 3 WORK: the working array is shorter than two numbers per point
+abbrev pub WORK : (work points : ℕ) → Check
+WORK work points = whole 3 (ltb work (2 * points))
+
+-- 4 RANGE: a coordinate out of range
+abbrev pub RANGE : List Point → Check
+RANGE ps = each 4 (length ps) (λ i. not (pointInRange (pointAt ps i)))
+
+-- 4 RANGE: a rectangle's coordinate or far side out of range
+abbrev pub RANGE-rects : List Rect → Check
+RANGE-rects rs = each 4 (length rs) (λ i. not (rectInRange (rectAt rs i)))
+
+-- 5 REPEATED: a point equal to an earlier one
+abbrev pub REPEATED : List Point → Check
+REPEATED ps = each 5 (length ps) (λ i. any (same (pointAt ps i)) (take i ps))
+
+-- 6 ROW: a point on a row with an odd count
+abbrev pub ROW : List Point → Check
+ROW ps = each 6 (length ps) (λ i. odd (onRow (pointAt ps i .y)) ps)
+
+-- 7 COLUMN: a point in a column with an odd count
+abbrev pub COLUMN : List Point → Check
+COLUMN ps = each 7 (length ps) (λ i. odd (inColumn (pointAt ps i .x)) ps)
+
+-- 8 ROOM: the result needs more room
+abbrev pub ROOM : (needed room : ℕ) → Check
+ROOM needed room = needs 8 needed room
+
+-- 9 FLAT: W or H below 1
+abbrev pub FLAT : List Rect → Check
+FLAT rs = each 9 (length rs) (λ i. flat (rectAt rs i))
+
+-- 10 DRAINED: a step asked with no points left
+abbrev pub DRAINED : (points : ℕ) → Check
+DRAINED points = whole 10 (eqb points 0)
+
+-- 11 TEXT: the program's input has a bad line
+abbrev pub TEXT : (lines : ℕ) (bad : ℕ → Bool) → Check
+TEXT lines bad = each 11 lines bad
+
+-- what forward and a step ask of the points themselves: 4, 5, 6, 7
+unfoldable pub pointChecks : List Point → List Check
+pointChecks ps = RANGE ps ∷ REPEATED ps ∷ ROW ps ∷ COLUMN ps ∷ []
+
+-- ---- What is accepted
+
+-- points that forward and a step accept: in range, none twice, every row and every column with an even count
+pub record Accepted (ps : List Point) : Type 0 where
+  pub range : (q : Point) → In q ps → pointInRange q ≡ true
+  pub once : (q : Point) → count (same q) ps ≤ 1
+  pub rows : (y : ℤ) → odd (onRow y) ps ≡ false
+  pub columns : (x : ℤ) → odd (inColumn x) ps ≡ false
+
+-- rectangles that backward accepts: W and H at least 1, and all in range
+pub record AcceptedRects (rs : List Rect) : Type 0 where
+  pub solid : (r : Rect) → In r rs → flat r ≡ false
+  pub range : (r : Rect) → In r rs → rectInRange r ≡ true

@@ -6,7 +6,7 @@ use Rattle.plane.specs.declared.Rect.{Rect}
 use Rattle.drawing.specs.declared.Frame.{Frame}
 use Rattle.drawing.specs.declared.View.{View}
 use Rattle.drawing.specs.declared.Box.{Box}
-use Rattle.drawing.specs.Plan.{raised, extent, spanOf, scaled, viewOf, across, down, beside, boxOf, numberSize, dotRadius}
+use Rattle.drawing.specs.Plan.{raised, extent, spanOf, scaled, viewOf, across, down, freeBeside, boxOf, numberSize, dotRadius}
 use Rattle.drawing.specs.Inner.{IsSmall}
 
 -- what is scaled is at most 100,000
@@ -31,8 +31,8 @@ pub down-most : (v : View) (y : ℕ) → down v y ≤ v .height
 unfolding down
 down-most v y = omega arith
 
-pub beside-most : (v : View) → beside v ≤ 50_000
-unfolding beside
+pub beside-most : (v : View) → freeBeside v ≤ 50_000
+unfolding freeBeside
 beside-most v = omega arith
 
 pub size-most : (b : Box) → numberSize b ≤ 4000

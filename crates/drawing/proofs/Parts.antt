@@ -2,7 +2,6 @@
 use Prim.Native.Nat.{ℕ, suc, _+_, _*_, _^_, _≤_, _<_}
 use native.Mathlib.Omega.{arith}
 use mathlib.Core.Path.{_≡_, refl, sym, ap, _∙_}
-use mathlib.Core.Bool.{cond}
 use mathlib.Core.List.{List, [], _∷_, _++_, append-assoc, append-nil}
 use lib.ListN.{length, take, length-append}
 use lib.Seq.{take-suc, length-take-le}
@@ -11,6 +10,7 @@ use Rattle.plane.specs.declared.Point.{Point}
 use Rattle.plane.specs.declared.Rect.{Rect}
 use Rattle.plane.specs.Words.{pointAt, rectAt}
 use Rattle.plane.proofs.Bools.{cond-case}
+use Rattle.rule.specs.Answers.{Sums}
 use Rattle.numerals.specs.Inner.{Wrote}
 use Rattle.numerals.proofs.Writing.{wrote-length}
 use Rattle.text.specs.declared.Report.{Report}
@@ -19,7 +19,7 @@ use Rattle.text.proofs.Lengths.{ReportFits, sentence-length}
 use Rattle.drawing.specs.declared.View.{View}
 use Rattle.drawing.specs.declared.Box.{Box}
 use Rattle.drawing.specs.Plan.{raised, boxOf, dotRadius}
-use Rattle.drawing.specs.Picture.{headOf, blockOf, blocks, dotOf, dots, markOf, listSays, refusedSays, refusalSays, listPart, pointPart, markPart}
+use Rattle.drawing.specs.Picture.{headOf, blockOf, blocks, dotOf, dots, markOf, listSays, refusedSays, refusalSays, listPart, pointPart, markPart, sayPart}
 use Rattle.drawing.specs.Inner.{IsSmall}
 use Rattle.drawing.proofs.Bounds.{across-most, down-most, beside-most, size-most, radius-most, box-small}
 use Rattle.drawing.proofs.Filling.{filled-most}
@@ -42,9 +42,9 @@ pub mark-length : (v : View) (radius : ℕ) (p : Point) → v .width ≤ 100_000
 unfolding markOf
 mark-length v radius p w h r = filled-most 5 _ _ (omega (arith, across-most v (raised (p .x)), down-most v (raised (p .y)))) (omega arith)
 
-pub sums-length : (v : View) (count area edge : ℕ) → count < 10 ^ 20 → area < 10 ^ 20 → edge < 10 ^ 20 → length (listSays v count area edge) ≤ 200
+pub sums-length : (v : View) (s : Sums) → s .count < 10 ^ 20 → s .area < 10 ^ 20 → s .edge < 10 ^ 20 → length (listSays v s) ≤ 200
 unfolding listSays
-sums-length v count area edge c a e = filled-most 19 _ _ (omega (arith, beside-most v)) (omega arith)
+sums-length v s c a e = filled-most 19 _ _ (omega (arith, beside-most v)) (omega arith)
 
 pub refused-length : (v : View) (r : Report) → ReportFits r → length (refusedSays v r) ≤ 200
 unfolding refusedSays
@@ -111,10 +111,11 @@ mark-part-length v ps r w h =
     cond-case P (namesOne (r .answer)) (λ _. mark-length v (dotRadius (length ps)) (r .point) w h (radius-most (length ps))) (λ _. omega arith)
 
 -- what is said of sums of 64 bits, or of a refusal
-pub answer-length : (v : View) (count area edge : ℕ) (r : Report) → count < 10 ^ 20 → area < 10 ^ 20 → edge < 10 ^ 20 → ReportFits r → length (cond (eqb (r .answer) 0) (listSays v count area edge) (refusalSays v r)) ≤ 500
-answer-length v count area edge r c a e f =
+pub say-part-length : (v : View) (s : Sums) (r : Report) → s .count < 10 ^ 20 → s .area < 10 ^ 20 → s .edge < 10 ^ 20 → ReportFits r → length (sayPart v s r) ≤ 500
+unfolding sayPart
+say-part-length v s r c a e f =
     let P : List ℕ → Type 0 = λ l. length l ≤ 500 in
-    cond-case P (eqb (r .answer) 0) (λ _. omega (arith, sums-length v count area edge c a e)) (λ _. refusal-length v r f)
+    cond-case P (eqb (r .answer) 0) (λ _. omega (arith, sums-length v s c a e)) (λ _. refusal-length v r f)
 
 -- ---- Bounds on what is written
 

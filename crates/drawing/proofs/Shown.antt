@@ -2,7 +2,7 @@
 use Prim.Native.Nat.{ℕ, _*_, _^_, _≤_, _<_}
 use native.Mathlib.Nat.{zero-add}
 use native.Mathlib.Omega.{arith}
-use mathlib.Core.Path.{_≡_, refl, _∙_}
+use mathlib.Core.Path.{_≡_, refl, ap, _∙_}
 use mathlib.Core.Logic.{_≢_}
 use mathlib.Core.Bool.{Bool, true, false}
 use mathlib.Core.List.{List}
@@ -11,69 +11,71 @@ use lib.Seq.{take-append-seam}
 use lib.IntN.{ℤ}
 use lib.Dec.{eqb}
 use borrow.Author.Tests.{eqb-true, eqb-false, le-leb, lt-leb}
+use Rattle.plane.specs.declared.Point.{Point}
 use Rattle.plane.specs.declared.Rect.{Rect}
-use Rattle.plane.specs.Lists.{sum}
-use Rattle.plane.specs.Words.{areaOf, edgeOf, pointsOf, flatPoints, rectsOf, flatRects, mostPoints}
+use Rattle.plane.specs.Words.{pointsOf, flatPoints, rectsOf, flatRects, mostPoints}
 use Rattle.plane.proofs.Arrays.{points-flat, rects-append}
 use Rattle.rule.specs.declared.ForwardAnswer.{ForwardAnswer}
-use Rattle.rule.specs.Answers.{written, forwardSays, forwardAnswer, forwardOut, forwardChecks, ForwardDone, forwardList}
+use Rattle.rule.specs.Answers.{written, forwardSays, forwardAnswer, forwardOut, forwardChecks, ForwardDone, forwardList, Sums, sumsTold, forwardSums, listOf}
 use Rattle.rule.specs.Checks.{Verdict, accepted, refused, verdict}
 use Rattle.rule.proofs.Refusals.{forward-accepted}
-use Rattle.rule.proofs.Area.{rule-area-most, rule-edge-fits}
+use Rattle.rule.proofs.Demands.{forward-sums-fit}
 use Rattle.numerals.specs.Inner.{Wrote}
 use Rattle.reading.specs.declared.ReadAnswer.{ReadAnswer}
 use Rattle.reading.specs.Reading.{pointsRead, readChecks, readSays, readAnswer, ReadDone}
 use Rattle.reading.proofs.Kept.{read-done, read-refused}
-use Rattle.text.specs.declared.Report.{Report}
-use Rattle.text.specs.Program.{mostWork, mostList, programReport}
-use Rattle.drawing.specs.Picture.{sayPart, svgOf, shown, pointsShown, listShown, pictureOf, Drawn}
-use Rattle.drawing.specs.Inner.{svgWith, listMade}
+use Rattle.text.specs.Program.{mostWork, mostList, programReport, mostListed}
+use Rattle.drawing.specs.Picture.{svgOf, shown, pointsShown, listShown, sumsShown, pictureOf, Drawn}
 
 -- ---- The list
 
--- an answer has the sums of the list shown
-sums-shown : (v : Verdict) (rs : List Rect) → let r = forwardSays v rs in (r .count ≡ length (shown v rs)) × (r .area ≡ sum areaOf (shown v rs)) × (r .edge ≡ sum edgeOf (shown v rs))
-unfolding sum
-sums-shown accepted rs = (refl, refl, refl)
-sums-shown (refused k p) rs = (refl, refl, refl)
+-- an answer counts the list shown
+count-shown : (v : Verdict) (a : List ℤ) → forwardSays v (forwardSums a) .count ≡ length (shown v (forwardList a))
+count-shown accepted a = refl
+count-shown (refused k p) a = refl
 
 -- and the output begins with it
 starts-shown : (v : Verdict) (rs : List Rect) (out : List ℤ) → take (length (shown v rs)) (rectsOf (written v (flatRects rs) out)) ≡ shown v rs
 starts-shown accepted rs out = rw (rects-append rs) (take-append-seam rs _)
 starts-shown (refused k p) rs out = refl
 
--- with the program's room it is not long, and its sums fit
-pub list-small : (a : List ℤ) → let rs = listMade a in (length rs ≤ 3200) × (sum areaOf rs < 10 ^ 20) × (sum edgeOf rs < 10 ^ 20)
-unfolding sum
-list-small a = go (verdict (forwardChecks a mostWork mostList)) refl
+-- with the program's room it is not long
+pub list-few : (a : List ℤ) → length (listShown a) ≤ mostListed
+list-few a = go (verdict (forwardChecks a mostWork mostList)) refl
   where
-    go : (v : Verdict) → verdict (forwardChecks a mostWork mostList) ≡ v → let rs = shown v (forwardList a) in (length rs ≤ 3200) × (sum areaOf rs < 10 ^ 20) × (sum edgeOf rs < 10 ^ 20)
-    go accepted e =
-        let c = forward-accepted a mostWork mostList .0 e in
-        (c .room, omega (arith, rule-area-most (pointsOf a) (c .points)), omega (arith, rule-edge-fits (pointsOf a) (c .points)))
+    go : (v : Verdict) → verdict (forwardChecks a mostWork mostList) ≡ v → length (shown v (forwardList a)) ≤ mostListed
+    go accepted e = forward-accepted a mostWork mostList .0 e .room
     go (refused k p) e = omega arith
+
+-- sums that have at most 20 digits
+pub record SumsSmall (s : Sums) : Type 0 where
+  pub count : s .count < 10 ^ 20
+  pub area : s .area < 10 ^ 20
+  pub edge : s .edge < 10 ^ 20
+
+-- those shown
+pub sums-small : (a : List ℤ) → SumsSmall (sumsShown a)
+unfolding forwardAnswer
+sums-small a =
+    let fit = forward-sums-fit a mostWork mostList in
+    let v = verdict (forwardChecks a mostWork mostList) in
+    record { count = omega (arith, count-shown v a, list-few a); area = omega (arith, fit .0); edge = omega (arith, fit .1) }
 
 -- what forward leaves, with the program's work and room
 pub record Made (a : List ℤ) (r : ForwardAnswer) (out-after : List ℤ) : Type 0 where
-  pub list : take (r .count) (rectsOf out-after) ≡ listMade a
-  pub count : r .count ≡ length (listMade a)
-  pub area : r .area ≡ sum areaOf (listMade a)
-  pub edge : r .edge ≡ sum edgeOf (listMade a)
+  pub list : listOf r out-after ≡ listShown a
+  pub count : r .count ≤ mostListed
+  pub sums : sumsTold r ≡ sumsShown a
 
 pub list-made : {a work out : List ℤ} {r : ForwardAnswer} {work-after out-after : List ℤ} → ForwardDone a work out r work-after out-after → length work ≡ mostWork → length out ≡ mostList → Made a r out-after
 unfolding forwardAnswer forwardOut
 list-made {a} {work} {out} {r} {out-after = after} d w o =
     let v = verdict (forwardChecks a mostWork mostList) in
     let rs = forwardList a in
-    let e : r ≡ forwardSays v rs = rw (w, o) at (d .answer) in
+    let e : r ≡ forwardSays v (forwardSums a) = rw (w, o) at (d .answer) in
     let f : after ≡ written v (flatRects rs) out = rw (w, o) at (d .output) in
-    let s = sums-shown v rs in
-    record { list = rw (e, f, s .0) (starts-shown v rs out); count = rw e (s .0); area = rw e (s .1); edge = rw e (s .2) }
-
--- a picture with these sums is the picture of the list
-pub svg-made : {a : List ℤ} {r : ForwardAnswer} {after : List ℤ} (report : Report) → Made a r after → svgWith (pointsOf a) (take (r .count) (rectsOf after)) r report ≡ svgOf (pointsOf a) (listMade a) report
-unfolding svgOf sayPart
-svg-made report m = rw (m .list, m .count, m .area, m .edge)
+    let many : r .count ≡ length (shown v rs) = rw e (count-shown v a) in
+    record { list = rw (many, f) (starts-shown v rs out); count = omega (arith, list-few a); sums = rw e }
 
 -- ---- The points
 
@@ -83,7 +85,7 @@ pub record Read (t : List ℕ) (r : ReadAnswer) (out-after : List ℤ) : Type 0 
   pub fits : 2 * r .count ≤ length out-after
   pub numbers : take (2 * r .count) out-after ≡ flatPoints (pointsShown t)
 
-pub points-read : {t : List ℕ} {out : List ℤ} {r : ReadAnswer} {after : List ℤ} → ReadDone t out r after → 8192 ≤ length out → Read t r after
+pub points-read : {t : List ℕ} {out : List ℤ} {r : ReadAnswer} {after : List ℤ} → ReadDone t out r after → mostWork ≤ length out → Read t r after
 unfolding pointsShown readAnswer flatPoints
 points-read {t} {out} {r} {after} d room = go (eqb (r .answer) 0) refl
   where
@@ -101,9 +103,9 @@ points-read {t} {out} {r} {after} d room = go (eqb (r .answer) 0) refl
 -- ---- The picture
 
 -- what is drawn of them is the picture of the text
-pub picture-shown : (t : List ℕ) → let a = flatPoints (pointsShown t) in svgOf (pointsOf a) (listMade a) (programReport t) ≡ pictureOf t
-unfolding pictureOf listShown
-picture-shown t = rw (points-flat (pointsShown t))
+pub picture-shown : (t : List ℕ) → let a = flatPoints (pointsShown t) in svgOf (pointsOf a) (listShown a) (sumsShown a) (programReport t) ≡ pictureOf t
+unfolding pictureOf
+picture-shown t = let a = flatPoints (pointsShown t) in ap (λ (ps : List Point). svgOf ps (listShown a) (sumsShown a) (programReport t)) (points-flat (pointsShown t))
 
 -- with room it is drawn, and without it nothing is
 pub drawn : {t out : List ℕ} {r : ℕ} {after : List ℕ} → Wrote out 0 (pictureOf t) r after → 800_000 ≤ length out → Drawn t out r after

@@ -4,14 +4,13 @@ use mathlib.Core.Path.{_≡_}
 use mathlib.Core.Bool.{cond}
 use mathlib.Core.List.{List, [], _∷_, _++_}
 use lib.ListN.{length, drop, getD}
+use lib.IntN.{ℤ}
 use lib.Dec.{eqb, leb}
 use Rattle.plane.specs.declared.Point.{Point}
 use Rattle.plane.specs.declared.Rect.{Rect}
-use Rattle.plane.specs.Lists.{sum}
-use Rattle.plane.specs.Words.{areaOf, edgeOf, flatPoints}
-use Rattle.rule.specs.Rule.{ruleList}
+use Rattle.plane.specs.Words.{flatPoints}
 use Rattle.rule.specs.Checks.{Verdict, accepted, refused, verdict}
-use Rattle.rule.specs.Answers.{forwardChecks}
+use Rattle.rule.specs.Answers.{forwardChecks, Sums, sumsTold, forwardList, forwardAnswer}
 use Rattle.numerals.specs.Bytes.{ascii, pasted}
 use Rattle.numerals.specs.Numerals.{decimal}
 use Rattle.reading.specs.Reading.{pointsRead, textChecks}
@@ -20,7 +19,7 @@ use Rattle.text.specs.Program.{mostWork, mostList, namesOne, programReport}
 use Rattle.text.specs.Sentences.{sentence}
 use Rattle.drawing.specs.declared.View.{View}
 use Rattle.drawing.specs.declared.Box.{Box}
-use Rattle.drawing.specs.Plan.{raised, frameOf, viewOf, across, down, beside, boxOf, numberSize, dotRadius}
+use Rattle.drawing.specs.Plan.{raised, frameOf, viewOf, across, down, freeBeside, boxOf, numberSize, dotRadius}
 
 -- ---- Templates
 
@@ -40,7 +39,7 @@ unfoldable pub headOf : View → List ℕ
 headOf v =
     filled
     (ascii "<svg xmlns='http://www.w3.org/2000/svg' width='1040' height='@' viewBox='-@ -8000 104000 @'>\n<style>.paper{fill:white}.list rect{fill:lightsteelblue;stroke:navy;stroke-width:40}.list text{font-family:sans-serif;text-anchor:middle;fill:black}.points circle{fill:black}.bad{fill:none;stroke:red;stroke-width:150}.said{font:2400px sans-serif}.why{font:1500px sans-serif}</style>\n<rect class='paper' x='-@' y='-8000' width='104000' height='@'/>\n<g class='list'>\n")
-    (((v .height + 10_000) / 100) ∷ (beside v + 2000) ∷ (v .height + 10_000) ∷ (beside v + 2000) ∷ (v .height + 10_000) ∷ [])
+    (((v .height + 10_000) / 100) ∷ (freeBeside v + 2000) ∷ (v .height + 10_000) ∷ (freeBeside v + 2000) ∷ (v .height + 10_000) ∷ [])
 
 -- a rectangle with its number in the middle
 unfoldable pub blockOf : (number : ℕ) → Box → List ℕ
@@ -71,12 +70,12 @@ markOf v radius p =
     (down v (raised (p .y)) ∷ v .width ∷ across v (raised (p .x)) ∷ v .height ∷ across v (raised (p .x)) ∷ down v (raised (p .y)) ∷ (radius + 800) ∷ [])
 
 -- what is said above a list: its sums
-unfoldable pub listSays : View → (count area edge : ℕ) → List ℕ
-listSays v count area edge = filled (ascii "<text class='said' x='-@' y='-3000'>rects @ area @ edge @</text>\n") (beside v ∷ count ∷ area ∷ edge ∷ [])
+unfoldable pub listSays : View → Sums → List ℕ
+listSays v s = filled (ascii "<text class='said' x='-@' y='-3000'>rects @ area @ edge @</text>\n") (freeBeside v ∷ s .count ∷ s .area ∷ s .edge ∷ [])
 
 -- what is said above points that are refused: the refusal's number and place, and the start of a second line
 unfoldable pub refusedSays : View → Report → List ℕ
-refusedSays v r = filled (ascii "<text class='said' x='-@' y='-5000'>refused @ place @</text>\n<text class='why' x='-@' y='-2200'>") (beside v ∷ r .answer ∷ r .place ∷ beside v ∷ [])
+refusedSays v r = filled (ascii "<text class='said' x='-@' y='-5000'>refused @ place @</text>\n<text class='why' x='-@' y='-2200'>") (freeBeside v ∷ r .answer ∷ r .place ∷ freeBeside v ∷ [])
 
 -- and then the program's sentence
 unfoldable pub refusalSays : View → Report → List ℕ
@@ -97,14 +96,14 @@ unfoldable pub markPart : View → List Point → Report → List ℕ
 markPart v ps r = cond (namesOne (r .answer)) (markOf v (dotRadius (length ps)) (r .point)) []
 
 -- what is said above
-unfoldable pub sayPart : View → List Rect → Report → List ℕ
-sayPart v rs r = cond (eqb (r .answer) 0) (listSays v (length rs) (sum areaOf rs) (sum edgeOf rs)) (refusalSays v r)
+unfoldable pub sayPart : View → Sums → Report → List ℕ
+sayPart v s r = cond (eqb (r .answer) 0) (listSays v s) (refusalSays v r)
 
--- a picture of points, their list and the program's report
-unfoldable pub svgOf : List Point → List Rect → Report → List ℕ
-svgOf ps rs r =
+-- a picture of points, their list with its sums, and the program's report
+unfoldable pub svgOf : List Point → List Rect → Sums → Report → List ℕ
+svgOf ps rs s r =
     let v = viewOf (frameOf ps) in
-    listPart v rs ++ (pointPart v ps ++ (markPart v ps r ++ (sayPart v rs r ++ ascii "</svg>\n")))
+    listPart v rs ++ (pointPart v ps ++ (markPart v ps r ++ (sayPart v s r ++ ascii "</svg>\n")))
 
 -- what is shown of points or rectangles: all that are accepted, none of what is refused
 abbrev pub shown : {A : Type 0} → Verdict → List A → List A
@@ -115,13 +114,19 @@ shown (refused k p) xs = []
 unfoldable pub pointsShown : List ℕ → List Point
 pointsShown t = shown (verdict (textChecks t)) (pointsRead t)
 
--- the list shown: none, if the points are refused
-unfoldable pub listShown : List Point → List Rect
-listShown ps = shown (verdict (forwardChecks (flatPoints ps) mostWork mostList)) (ruleList ps)
+-- the list shown of an array: none, if its points are refused
+abbrev pub listShown : List ℤ → List Rect
+listShown a = shown (verdict (forwardChecks a mostWork mostList)) (forwardList a)
+
+-- the sums shown: those that forward tells
+abbrev pub sumsShown : List ℤ → Sums
+sumsShown a = sumsTold (forwardAnswer a mostWork mostList)
 
 -- the picture of what the program reads
 unfoldable pub pictureOf : List ℕ → List ℕ
-pictureOf t = svgOf (pointsShown t) (listShown (pointsShown t)) (programReport t)
+pictureOf t =
+    let a = flatPoints (pointsShown t) in
+    svgOf (pointsShown t) (listShown a) (sumsShown a) (programReport t)
 
 -- ---- The contract
 

@@ -62,8 +62,8 @@ unfoldable pub down : View → ℕ → ℕ
 down v y = v .height - scaled (v .span) (v .bottom) y
 
 -- half of what is free beside a picture that is less than 100,000 wide
-unfoldable pub beside : View → ℕ
-beside v = (100_000 - v .width) / 2
+unfoldable pub freeBeside : View → ℕ
+freeBeside v = (100_000 - v .width) / 2
 
 -- ---- Rectangles and points
 

@@ -6,11 +6,12 @@ ghost use lib.ListN.{length, take, getD};
 ghost use lib.Dec.{eqb};
 ghost use Rattle.plane.specs.Lists.{bit};
 ghost use Rattle.plane.specs.Words.{pointsOf, rectsOf, rectSize};
+ghost use Rattle.rule.specs.Answers.{sumsTold, listOf};
 ghost use Rattle.numerals.specs.Inner.{Wrote};
-ghost use Rattle.drawing.specs.Plan.{extent, raised, about, widened, frameOf, spanOf, scaled, viewOf, across, down, beside, boxOf, numberSize, dotRadius};
-ghost use Rattle.drawing.specs.Picture.{blank, filled, headOf, blockOf, blocks, dotOf, dots, markOf, listSays, refusedSays, refusalSays, listPart, pointPart, markPart, svgOf, Drawn};
-ghost use Rattle.drawing.specs.Inner.{piece, IsRaised, ShowsAll, IsSmall, answerPart, svgWith, listMade};
-ghost use Rattle.text.specs.Program.{programReport};
+ghost use Rattle.drawing.specs.Plan.{extent, raised, about, widened, frameOf, spanOf, scaled, viewOf, across, down, freeBeside, boxOf, numberSize, dotRadius};
+ghost use Rattle.drawing.specs.Picture.{blank, filled, headOf, blockOf, blocks, dotOf, dots, markOf, listSays, refusedSays, refusalSays, listPart, pointPart, markPart, svgOf, Drawn, listShown, sumsShown, sayPart};
+ghost use Rattle.drawing.specs.Inner.{piece, IsRaised, ShowsAll, IsSmall};
+ghost use Rattle.text.specs.Program.{programReport, mostListed, mostWork};
 ghost use Rattle.text.specs.Sentences.{sentence};
 use numerals::put_bytes;
 use numerals::put_number;
@@ -24,7 +25,9 @@ use reading::read_points;
 use rule::COLUMN;
 use rule::DONE;
 use rule::RANGE;
+use text::MOST_LIST;
 use text::MOST_SAID;
+use text::MOST_WORK;
 use text::Report;
 use text::answer;
 use text::complaint;
@@ -207,7 +210,7 @@ fn line(v: View, y: u64) -> u64
 
 // Half of what is free beside the picture.
 fn free_beside(v: View) -> u64
-    ensures { λ r. ⌜ r ≡ beside v ⌝ }
+    ensures { λ r. ⌜ r ≡ freeBeside v ⌝ }
     ensures { λ r. ⌜ r ≤ 50_000 ⌝ }
 {
     gap(100000, v.width) / 2
@@ -334,7 +337,7 @@ fn put_block(out: &mut [u8], at: usize, number: usize, b: Box) -> usize
 
 // The first n rectangles, numbered from 0.
 fn put_blocks(out: &mut [u8], at: usize, v: View, rects: &[i32], n: usize) -> usize
-    requires { ⌜ ShowsAll v × (n ≤ 3200) × (rectSize * n ≤ length (now rects)) × (at + 160 * n ≤ length (now out)) ⌝ }
+    requires { ⌜ ShowsAll v × (n ≤ mostListed) × (rectSize * n ≤ length (now rects)) × (at + 160 * n ≤ length (now out)) ⌝ }
     ensures { λ r. ⌜ Wrote (now (out .entry)) at (blocks v 0 (take n (rectsOf (now (rects .entry))))) r (now (out .exit)) ⌝ }
 {
     let mut next = at;
@@ -401,7 +404,7 @@ fn put_mark(out: &mut [u8], at: usize, v: View, radius: u64, p: Point) -> usize
 
 fn put_sums(out: &mut [u8], at: usize, v: View, sums: ForwardAnswer) -> usize
     requires { ⌜ at + 200 ≤ length (now out) ⌝ }
-    ensures { λ r. ⌜ Wrote (now (out .entry)) at (listSays v (sums .count) (sums .area) (sums .edge)) r (now (out .exit)) ⌝ }
+    ensures { λ r. ⌜ Wrote (now (out .entry)) at (listSays v (sumsTold sums)) r (now (out .exit)) ⌝ }
 {
     let numbers: [u64; 4] = [free_beside(v), sums.count as u64, sums.area, sums.edge];
     fill(
@@ -448,7 +451,7 @@ fn put_refusal(out: &mut [u8], at: usize, v: View, r: Report) -> usize
 // ---- The picture
 
 fn put_list(out: &mut [u8], v: View, rects: &[i32], n: usize) -> usize
-    requires { ⌜ ShowsAll v × (n ≤ 3200) × (rectSize * n ≤ length (now rects)) × (520_000 ≤ length (now out)) ⌝ }
+    requires { ⌜ ShowsAll v × (n ≤ mostListed) × (rectSize * n ≤ length (now rects)) × (520_000 ≤ length (now out)) ⌝ }
     ensures { λ r. ⌜ Wrote (now (out .entry)) 0 (listPart v (take n (rectsOf (now (rects .entry))))) r (now (out .exit)) ⌝ }
 {
     let a = put_head(out, v);
@@ -476,7 +479,7 @@ fn put_offender(out: &mut [u8], at: usize, v: View, points: &[i32], r: Report) -
 
 fn put_answer(out: &mut [u8], at: usize, v: View, sums: ForwardAnswer, r: Report) -> usize
     requires { ⌜ at + 500 ≤ length (now out) ⌝ }
-    ensures { λ n. ⌜ Wrote (now (out .entry)) at (answerPart v sums r) n (now (out .exit)) ⌝ }
+    ensures { λ n. ⌜ Wrote (now (out .entry)) at (sayPart v (sumsTold sums) r) n (now (out .exit)) ⌝ }
 {
     if r.answer == DONE {
         return put_sums(out, at, v, sums);
@@ -492,8 +495,8 @@ fn put_picture(
     sums: ForwardAnswer,
     r: Report,
 ) -> usize
-    requires { ⌜ (length (now points) ≤ 8192) × (sums .count ≤ 3200) × (rectSize * sums .count ≤ length (now rects)) × (800_000 ≤ length (now out)) ⌝ }
-    ensures { λ n. ⌜ Wrote (now (out .entry)) 0 (svgWith (pointsOf (now (points .entry))) (take (sums .count) (rectsOf (now (rects .entry)))) sums r) n (now (out .exit)) ⌝ }
+    requires { ⌜ (length (now points) ≤ mostWork) × (sums .count ≤ mostListed) × (rectSize * sums .count ≤ length (now rects)) × (800_000 ≤ length (now out)) ⌝ }
+    ensures { λ n. ⌜ Wrote (now (out .entry)) 0 (svgOf (pointsOf (now (points .entry))) (listOf sums (now (rects .entry))) (sumsTold sums) r) n (now (out .exit)) ⌝ }
 {
     let v = view_of(frame_of(points));
     let a = put_list(out, v, rects, sums.count);
@@ -505,11 +508,11 @@ fn put_picture(
 
 // The points read are fractured as the program does, and drawn.
 fn draw(points: &[i32], r: Report, out: &mut [u8]) -> usize
-    requires { ⌜ (length (now points) ≤ 8192) × (800_000 ≤ length (now out)) ⌝ }
-    ensures { λ n. ⌜ Wrote (now (out .entry)) 0 (svgOf (pointsOf (now (points .entry))) (listMade (now (points .entry))) r) n (now (out .exit)) ⌝ }
+    requires { ⌜ (length (now points) ≤ mostWork) × (800_000 ≤ length (now out)) ⌝ }
+    ensures { λ n. ⌜ Wrote (now (out .entry)) 0 (svgOf (pointsOf (now (points .entry))) (listShown (now (points .entry))) (sumsShown (now (points .entry))) r) n (now (out .exit)) ⌝ }
 {
-    let mut work: [i32; 8192] = [0; 8192];
-    let mut rects: [i32; 12800] = [0; 12800];
+    let mut work: [i32; MOST_WORK] = [0; MOST_WORK];
+    let mut rects: [i32; MOST_LIST] = [0; MOST_LIST];
     let sums = forward(points, &mut work, &mut rects);
     put_picture(out, points, &rects, sums, r)
 }
@@ -530,7 +533,7 @@ pub fn picture(input: &[u8], out: &mut [u8]) -> usize
     if out.len() < MOST_DRAWN {
         return 0;
     }
-    let mut points: [i32; 8192] = [0; 8192];
+    let mut points: [i32; MOST_WORK] = [0; MOST_WORK];
     let read = read_points(input, &mut points);
     let end = 2 * read.count;
     draw(&points[..end], report_of(input), out)

@@ -9,7 +9,7 @@ ghost use mathlib.Core.List.{[], _∷_};
 ghost use mathlib.Core.Option.{Option·getD};
 ghost use lib.ListN.{length, take};
 ghost use Prim.Native.Nat.{_+_, _*_, _/_, _<_, _≤_};
-ghost use Rattle.plane.specs.Words.{inRange, pointInRange, rectInRange, flat, cornersOf, rectsOf, flatPoints, rectAt, rectSize};
+ghost use Rattle.plane.specs.Words.{inRange, pointInRange, rectInRange, flat, cornersOf, rectsOf, flatPoints, rectSize};
 ghost use Rattle.sorting.specs.Sorted.{sorted};
 ghost use Rattle.rule.specs.Back.{backList};
 ghost use Rattle.rule.specs.Answers.{written, BackwardAccepted, BackwardDone};

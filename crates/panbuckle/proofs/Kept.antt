@@ -18,7 +18,7 @@ use Rattle.rule.specs.declared.ForwardAnswer.{ForwardAnswer}
 use Rattle.rule.specs.declared.StepAnswer.{StepAnswer}
 use Rattle.rule.specs.declared.StepAnswer.the-variants.{Rectangle}
 use Rattle.rule.specs.Rule.{step, rowCount}
-use Rattle.rule.specs.Answers.{written, Starts, forwardSays, forwardAnswer, forwardOut, stepNumber, stepPlace, stepValues, forwardChecks, stepChecks, ForwardDone, listOf, StepDone, forwardList, forwardSums}
+use Rattle.rule.specs.Answers.{written, Starts, forwardSays, forwardAnswer, forwardOut, stepNumber, stepPlace, stepValues, forwardChecks, stepChecks, ForwardDone, listOf, StepDone, forwardList, forwardSums, sumsTold}
 use Rattle.rule.specs.Checks.{FirstGiven, accepted}
 use Rattle.rule.specs.Rows.{Accepted, AcceptedRects}
 use Rattle.rule.proofs.Refusals.{forward-refuses, step-refuses, step-accepts-exactly, step-accepted}
@@ -115,6 +115,10 @@ module _ {a work out : List ℤ} {r : ForwardAnswer} {work-after out-after : Lis
   -- and the output is otherwise unchanged
   pub done-rest : drop (rectSize * r .count) out-after ≡ drop (rectSize * r .count) out
   done-rest = let rs = forwardList a in rw (answers-list, writes-list, ← length-flat-rects rs) (drop-append-seam (flatRects rs) _)
+
+  -- it tells the sums of the rule's list
+  pub done-told : sumsTold r ≡ forwardSums a
+  done-told = rw answers-list
 
   -- the count, the area (the sum of W·H) and the edge (the sum of 2·(W+H)) are those of the rectangles written
   pub done-sums : let list = listOf r out-after in (r .count ≡ length list) × (r .area ≡ sum areaOf list) × (r .edge ≡ sum edgeOf list)

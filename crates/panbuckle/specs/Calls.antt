@@ -8,7 +8,6 @@ use Rattle.plane.specs.declared.Rect.{Rect}
 use Rattle.plane.specs.Words.{mostPoints, rectSize}
 use Rattle.rule.specs.declared.ForwardAnswer.{ForwardAnswer}
 use Rattle.rule.specs.declared.BackwardAnswer.{BackwardAnswer}
-use Rattle.rule.specs.declared.StepAnswer.{StepAnswer}
 use Rattle.rule.specs.declared.StepAnswer.the-variants.{Rectangle, Refused}
 use Rattle.rule.specs.Answers.{forwardList, ForwardDone, listOf, BackwardDone, StepDone}
 

@@ -10,7 +10,7 @@ ghost use lib.IntN.{_-ℤ_};
 ghost use lib.Signed.{ltZ};
 ghost use lib.ListN.{length};
 ghost use Prim.Native.Nat.{_+_, _*_, _<_, _≤_};
-ghost use Rattle.plane.specs.Words.{origin, same, before, pointsOf, pointAt};
+ghost use Rattle.plane.specs.Words.{origin, same, before};
 ghost use Rattle.rule.specs.Rule.{firstOf, rightOf, placeOf, pickM, rectOf, toggle, toggleFour};
 ghost use Rattle.rule.specs.Answers.{workOf, stepChecks, StepAccepted, ForwardDone, StepDone};
 ghost use Rattle.rule.specs.Checks.{verdict};

@@ -74,6 +74,10 @@ abbrev pub forwardSays : Verdict → Sums → ForwardAnswer
 forwardSays accepted s = record { answer = 0; place = 0; count = s .count; area = s .area; edge = s .edge }
 forwardSays (refused k p) s = record { answer = k; place = p; count = 0; area = 0; edge = 0 }
 
+-- the sums that an answer tells
+abbrev pub sumsTold : ForwardAnswer → Sums
+sumsTold r = record { count = r .count; area = r .area; edge = r .edge }
+
 -- what it returns
 unfoldable pub forwardAnswer : (a : List ℤ) (work out : ℕ) → ForwardAnswer
 forwardAnswer a work out = forwardSays (verdict (forwardChecks a work out)) (forwardSums a)

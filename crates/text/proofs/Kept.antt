@@ -6,14 +6,14 @@ use mathlib.Core.Logic.{_↔_}
 use mathlib.Core.List.{List}
 use lib.ListN.{length, take}
 use Rattle.plane.proofs.Arrays.{points-flat}
-use Rattle.rule.specs.Rule.{ruleList}
 use Rattle.rule.specs.Checks.{FirstGiven, Verdict, accepted, refused, verdict}
 use Rattle.rule.specs.Rows.{Accepted}
+use Rattle.rule.specs.Answers.{forwardSums, forwardList}
 use Rattle.rule.proofs.Verdicts.{numberIn, placeIn, answer-refuses, refused-exactly}
 use Rattle.numerals.proofs.Putting.{put-made, pasted-length, pasted-front}
 use Rattle.reading.specs.Reading.{pointsRead}
 use Rattle.text.specs.declared.Report.{Report}
-use Rattle.text.specs.Program.{programChecks, listLines, refusalLine, reportSays, programPrints, programReport, ProgramDone}
+use Rattle.text.specs.Program.{programChecks, listLines, refusalLine, reportSays, programPrints, programReport, ProgramDone, numbersRead, printed}
 use Rattle.text.proofs.Checks.{program-accepts, program-answers-0}
 use Rattle.text.proofs.Longest.{longest-fits}
 
@@ -47,7 +47,7 @@ module _ {t out : List ℕ} {r : Report} {after : List ℕ} (d : ProgramDone t o
   refused-prints k p e f = rw (refused-exactly (programChecks t) (suc k) p .1 (refused-exactly-when k p .0 (e, f)))
 
   -- otherwise forward accepts the points read, and the rule's list of them is printed
-  pub done-prints : r .answer ≡ 0 → (programPrints t ≡ listLines (ruleList (pointsRead t))) × Accepted (pointsRead t)
+  pub done-prints : r .answer ≡ 0 → (programPrints t ≡ listLines (forwardSums (numbersRead t)) (forwardList (numbersRead t))) × Accepted (pointsRead t)
   unfolding programPrints
   done-prints e =
       let v = program-answers-0 t .0 (sym (report-says t .0) ∙ ap (λ s. s .answer) (sym (d .report)) ∙ e) in

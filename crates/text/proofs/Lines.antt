@@ -7,15 +7,16 @@ use lib.ListN.{length, take, length-append}
 use lib.Seq.{take-nil, take-suc}
 use Rattle.plane.specs.declared.Rect.{Rect}
 use Rattle.plane.specs.Words.{rectAt}
+use Rattle.rule.specs.Answers.{Sums}
 use Rattle.numerals.specs.Bytes.{ascii}
 use Rattle.numerals.proofs.Printing.{decimal-length}
 use Rattle.text.specs.Program.{sumsLine, rectLine, rectLines, refusalLine}
 use Rattle.text.specs.Inner.{worded, field}
 
 -- the sums: three times words and a number, and the end of the line
-pub sums-pieces : (count area edge : ℕ) → sumsLine count area edge ≡ worded (ascii "rects ") count ++ (worded (ascii " area ") area ++ (worded (ascii " edge ") edge ++ ascii "\n"))
+pub sums-pieces : (s : Sums) → sumsLine s ≡ worded (ascii "rects ") (s .count) ++ (worded (ascii " area ") (s .area) ++ (worded (ascii " edge ") (s .edge) ++ ascii "\n"))
 unfolding sumsLine
-sums-pieces count area edge = simp append-assoc
+sums-pieces s = simp append-assoc
 
 -- a refusal: twice words and a number, and the end of the line
 pub refusal-pieces : (number place : ℕ) → refusalLine number place ≡ worded (ascii "refused ") number ++ (worded (ascii " place ") place ++ ascii "\n")

@@ -5,19 +5,20 @@ use mathlib.Core.Logic.{_≢_}
 use mathlib.Core.List.{List}
 use lib.ListN.{length}
 use lib.IntN.{ℤ}
-use Rattle.plane.specs.Words.{origin, flatPoints}
+use Rattle.plane.specs.declared.Point.{Point}
+use Rattle.plane.specs.Words.{origin}
 use Rattle.plane.proofs.Arrays.{points-flat}
 use Rattle.rule.specs.declared.ForwardAnswer.{ForwardAnswer}
 use Rattle.rule.specs.Checks.{Verdict, accepted, refused, verdict}
-use Rattle.rule.specs.Answers.{ForwardDone, forwardList}
+use Rattle.rule.specs.Answers.{ForwardDone, forwardList, forwardSums}
 use Rattle.rule.proofs.Verdicts.{numberIn, placeIn}
 use Rattle.rule.proofs.Refusals.{forward-says}
 use Rattle.rule.proofs.Demands.{forward-verdict}
-use Rattle.panbuckle.proofs.Kept.{answers-0, done-list, done-sums}
+use Rattle.panbuckle.proofs.Kept.{answers-0, done-list, done-told}
 use Rattle.numerals.specs.Bytes.{putAt}
 use Rattle.reading.specs.Reading.{pointsRead, textChecks}
 use Rattle.text.specs.declared.Report.{Report}
-use Rattle.text.specs.Program.{mostWork, mostList, listLines, refusalLine, programPrints, programReport, ProgramDone}
+use Rattle.text.specs.Program.{mostWork, mostList, listLines, refusalLine, programPrints, programReport, ProgramDone, numbersRead, reportSays, printed}
 use Rattle.text.specs.Inner.{says, listed, Listed}
 use Rattle.text.proofs.Checks.{program-forward, program-refused, text-names-none}
 
@@ -40,24 +41,22 @@ module _ {a work out : List ℤ} {r : ForwardAnswer} {work-after out-after : Lis
       rw (number, place) (refusal-is (says a) (rw number at n))
 
   -- a list is printed as the rule's
-  pub listed-lines : r .answer ≡ 0 → listed r out-after ≡ listLines (forwardList a)
+  pub listed-lines : r .answer ≡ 0 → listed r out-after ≡ listLines (forwardSums a) (forwardList a)
   unfolding listLines
-  listed-lines done =
-      let list = done-list d done in
-      let sums = rw list at (done-sums d done) in
-      cc (sums .0, sums .1, sums .2)
+  listed-lines done = rw (done-told d done, done-list d done)
 
 -- where the text is accepted, that is what the program does
-pub fractured-listed : {t out : List ℕ} {r : Report} {after : List ℕ} → verdict (textChecks t) ≡ accepted → Listed (flatPoints (pointsRead t)) (length t) out r after → ProgramDone t out r after
+pub program-listed : {t out : List ℕ} {r : Report} {after : List ℕ} → verdict (textChecks t) ≡ accepted → Listed (numbersRead t) (length t) out r after → ProgramDone t out r after
 unfolding programReport programPrints
-fractured-listed {t} e l =
+program-listed {t} e l =
     let v = program-forward t e in
-    let same = points-flat (pointsRead t) in
-    record { report = rw v (rw same at (l .report)); output = rw v (rw same at (l .output)) }
+    let a = numbersRead t in
+    let report : List Point → Report = λ ps. reportSays (says a) ps (length t) (length (printed (says a) (forwardSums a) (forwardList a))) in
+    record { report = rw v (l .report ∙ ap report (points-flat (pointsRead t))); output = rw v (l .output) }
 
 -- where it is refused, that is printed, and no point is named
-pub fractured-refused : {t out : List ℕ} {r : Report} {after : List ℕ} {k p : ℕ} → verdict (textChecks t) ≡ refused k p → r ≡ record { answer = k; place = p; point = origin; read = length t; printed = length (refusalLine k p) } → after ≡ putAt out 0 (refusalLine k p) → ProgramDone t out r after
+pub program-told : {t out : List ℕ} {r : Report} {after : List ℕ} {k p : ℕ} → verdict (textChecks t) ≡ refused k p → r ≡ record { answer = k; place = p; point = origin; read = length t; printed = length (refusalLine k p) } → after ≡ putAt out 0 (refusalLine k p) → ProgramDone t out r after
 unfolding programReport programPrints
-fractured-refused {t} e report output =
+program-told {t} e report output =
     let v = program-refused t e in
     record { report = rw (v, text-names-none t (pointsRead t) e) report; output = rw v output }

@@ -14,15 +14,14 @@ use lib.Dec.{eqb}
 use borrow.Author.Tests.{ltb-false}
 use Rattle.plane.specs.declared.Point.{Point}
 use Rattle.plane.specs.declared.Rect.{Rect}
-use Rattle.plane.specs.Lists.{sum}
-use Rattle.plane.specs.Words.{inRange, right, top, rectInRange, areaOf, edgeOf, pointsOf, flatPoints}
+use Rattle.plane.specs.Words.{inRange, right, top, rectInRange, pointsOf}
 use Rattle.plane.proofs.Bools.{and-four}
 use Rattle.plane.proofs.Order.{add-up, mag-most, range-up, range-most}
 use Rattle.plane.proofs.Arrays.{points-flat}
 use Rattle.rule.specs.Rule.{ruleList}
 use Rattle.rule.specs.Checks.{Check, whole, each, needs, Given, by-whole, by-item, by-need, FirstGiven, this, later, Verdict, accepted, refused, verdict}
 use Rattle.rule.specs.Rows.{MANY, pointChecks}
-use Rattle.rule.specs.Answers.{forwardChecks, ForwardAccepted, forwardList}
+use Rattle.rule.specs.Answers.{forwardChecks, ForwardAccepted, forwardList, Sums, forwardSums}
 use Rattle.rule.proofs.Verdicts.{clear-exactly, refused-exactly}
 use Rattle.rule.proofs.Bound.{rule-most}
 use Rattle.rule.proofs.Rising.{rule-rects}
@@ -30,15 +29,15 @@ use Rattle.rule.proofs.Area.{rule-area-most, rule-edge-fits}
 use Rattle.numerals.proofs.Printing.{decimal-length, signed-length}
 use Rattle.reading.specs.Lines.{Line, onto, linesOf, linePoint, withPoint, pointsIn}
 use Rattle.reading.specs.Reading.{pointsRead, textChecks}
-use Rattle.text.specs.Program.{mostWork, mostList, programChecks, sumsLine, rectLine, rectLines, listLines, printed, programPrints}
+use Rattle.text.specs.Program.{mostWork, mostList, programChecks, sumsLine, rectLine, rectLines, listLines, printed, programPrints, numbersRead, mostListed}
 use Rattle.text.proofs.Lines.{refusal-length}
 use Rattle.text.proofs.Checks.{program-accepts, program-number}
 
 -- ---- A list
 
-sums-length : (count area edge : ℕ) → count < 10 ^ 20 → area < 10 ^ 20 → edge < 10 ^ 20 → length (sumsLine count area edge) ≤ 79
+sums-length : (s : Sums) → s .count < 10 ^ 20 → s .area < 10 ^ 20 → s .edge < 10 ^ 20 → length (sumsLine s) ≤ 79
 unfolding sumsLine
-sums-length count area edge h i j = simp length-append (omega (arith, decimal-length 19 count h, decimal-length 19 area i, decimal-length 19 edge j))
+sums-length s h i j = simp length-append (omega (arith, decimal-length 19 (s .count) h, decimal-length 19 (s .area) i, decimal-length 19 (s .edge) j))
 
 -- a side of which both ends are in range
 side-most : (a b : ℤ) → inRange a ≡ true → inRange (a +ℤ b) ≡ true → mag b ≤ 2_000_000_000
@@ -64,13 +63,12 @@ rects-length [] h = omega arith
 rects-length (r ∷ rs) h = simp length-append (omega (arith, rect-length r (h r (head refl)), rects-length rs (λ s n. h s (tail n))))
 
 -- a list of what forward accepts with room for 3,200 rectangles
-pub list-fits : (a : List ℤ) (work : ℕ) → ForwardAccepted a work mostList → length (listLines (forwardList a)) ≤ 153_679
+pub list-fits : (a : List ℤ) (work : ℕ) → ForwardAccepted a work mostList → length (listLines (forwardSums a) (forwardList a)) ≤ 153_679
 unfolding listLines
 list-fits a work c =
-    let rs = forwardList a in
-    let few : length rs ≤ 3200 = c .room in
-    let sums = sums-length (length rs) (sum areaOf rs) (sum edgeOf rs) (omega arith) (omega (arith, rule-area-most (pointsOf a) (c .points))) (omega (arith, rule-edge-fits (pointsOf a) (c .points))) in
-    let lines = rects-length rs (rule-rects (pointsOf a) (c .points) .range) in
+    let few : forwardSums a .count ≤ mostListed = c .room in
+    let sums = sums-length (forwardSums a) (omega arith) (omega (arith, rule-area-most (pointsOf a) (c .points))) (omega (arith, rule-edge-fits (pointsOf a) (c .points))) in
+    let lines = rects-length (forwardList a) (rule-rects (pointsOf a) (c .points) .range) in
     simp length-append (omega arith)
 
 -- ---- A refusal's place
@@ -145,9 +143,9 @@ pub longest-fits : (t : List ℕ) → length (programPrints t) ≤ 153_679
 unfolding programPrints
 longest-fits t = go (verdict (programChecks t)) refl
   where
-    ps : List Point
-    ps = pointsRead t
+    a : List ℤ
+    a = numbersRead t
 
-    go : (v : Verdict) → verdict (programChecks t) ≡ v → length (printed v (ruleList ps)) ≤ 153_679
-    go accepted e = rw (points-flat ps) at (list-fits (flatPoints ps) mostWork (program-accepts t e))
+    go : (v : Verdict) → verdict (programChecks t) ≡ v → length (printed v (forwardSums a) (forwardList a)) ≤ 153_679
+    go accepted e = list-fits a mostWork (program-accepts t e)
     go (refused k p) e = omega (arith, refusal-length k p (omega (arith, program-number t e)) (omega (arith, place-small t (refused-exactly (programChecks t) k p .0 e))))

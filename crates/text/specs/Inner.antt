@@ -2,12 +2,12 @@
 use Prim.Native.Nat.{ℕ}
 use mathlib.Core.Path.{_≡_}
 use mathlib.Core.List.{List, _++_}
-use lib.ListN.{length, take}
+use lib.ListN.{length}
 use lib.IntN.{ℤ}
-use Rattle.plane.specs.Words.{pointsOf, rectsOf}
+use Rattle.plane.specs.Words.{pointsOf}
 use Rattle.rule.specs.declared.ForwardAnswer.{ForwardAnswer}
 use Rattle.rule.specs.Checks.{Verdict, verdict}
-use Rattle.rule.specs.Answers.{forwardChecks, forwardList}
+use Rattle.rule.specs.Answers.{forwardChecks, forwardList, sumsTold, forwardSums, listOf}
 use Rattle.numerals.specs.Bytes.{putAt}
 use Rattle.numerals.specs.Numerals.{decimal, signed}
 use Rattle.text.specs.declared.Report.{Report}
@@ -27,9 +27,9 @@ says a = verdict (forwardChecks a mostWork mostList)
 
 -- the program on the numbers of a text that was read: its report, and the output afterwards
 pub record Listed (a : List ℤ) (read : ℕ) (out : List ℕ) (r : Report) (out-after : List ℕ) : Type 0 where
-  pub report : r ≡ reportSays (says a) (pointsOf a) read (length (printed (says a) (forwardList a)))
-  pub output : out-after ≡ putAt out 0 (printed (says a) (forwardList a))
+  pub report : r ≡ reportSays (says a) (pointsOf a) read (length (printed (says a) (forwardSums a) (forwardList a)))
+  pub output : out-after ≡ putAt out 0 (printed (says a) (forwardSums a) (forwardList a))
 
 -- the lines of a list with these sums, of the rectangles that an array begins with
 abbrev pub listed : ForwardAnswer → List ℤ → List ℕ
-listed sums rects = sumsLine (sums .count) (sums .area) (sums .edge) ++ rectLines (take (sums .count) (rectsOf rects))
+listed sums rects = sumsLine (sumsTold sums) ++ rectLines (listOf sums rects)

@@ -4,14 +4,13 @@ use mathlib.Core.Path.{_≡_}
 use mathlib.Core.Bool.{Bool, cond, _&&_}
 use mathlib.Core.List.{List, [], _∷_, _++_}
 use lib.ListN.{length}
+use lib.IntN.{ℤ}
 use lib.Dec.{leb}
 use Rattle.plane.specs.declared.Point.{Point}
 use Rattle.plane.specs.declared.Rect.{Rect}
-use Rattle.plane.specs.Lists.{sum}
-use Rattle.plane.specs.Words.{origin, areaOf, edgeOf, flatPoints, pointAt, rectSize, mostPoints}
-use Rattle.rule.specs.Rule.{ruleList}
+use Rattle.plane.specs.Words.{origin, flatPoints, pointAt, rectSize, mostPoints}
 use Rattle.rule.specs.Checks.{Check, Verdict, accepted, refused, verdict}
-use Rattle.rule.specs.Answers.{forwardChecks}
+use Rattle.rule.specs.Answers.{forwardChecks, Sums, forwardSums, forwardList}
 use Rattle.numerals.specs.Bytes.{ascii, putAt}
 use Rattle.numerals.specs.Numerals.{decimal, signed}
 use Rattle.reading.specs.Reading.{pointsRead, textChecks}
@@ -23,19 +22,27 @@ use Rattle.text.specs.declared.Report.{Report}
 abbrev pub mostWork : ℕ
 mostWork = 2 * mostPoints
 
--- the most numbers of a list: four for each of 3,200 rectangles
+-- the most rectangles of a list
+abbrev pub mostListed : ℕ
+mostListed = 3200
+
+-- the most numbers of a list
 abbrev pub mostList : ℕ
-mostList = rectSize * 3200
+mostList = rectSize * mostListed
+
+-- the numbers that forward is given: the points read, as an array
+abbrev pub numbersRead : List ℕ → List ℤ
+numbersRead t = flatPoints (pointsRead t)
 
 -- MANY for bytes, TEXT, MANY for lines, then the forward checks with room for 3,200 rectangles
 unfoldable pub programChecks : List ℕ → List Check
-programChecks t = textChecks t ++ forwardChecks (flatPoints (pointsRead t)) mostWork mostList
+programChecks t = textChecks t ++ forwardChecks (numbersRead t) mostWork mostList
 
 -- ---- What is printed
 
 -- the first line: count, area and edge
-unfoldable pub sumsLine : (count area edge : ℕ) → List ℕ
-sumsLine count area edge = ascii "rects " ++ (decimal count ++ (ascii " area " ++ (decimal area ++ (ascii " edge " ++ (decimal edge ++ ascii "\n")))))
+unfoldable pub sumsLine : Sums → List ℕ
+sumsLine s = ascii "rects " ++ (decimal (s .count) ++ (ascii " area " ++ (decimal (s .area) ++ (ascii " edge " ++ (decimal (s .edge) ++ ascii "\n")))))
 
 -- a rectangle's line: X Y W H
 unfoldable pub rectLine : Rect → List ℕ
@@ -47,21 +54,21 @@ rectLines [] = []
 rectLines (r ∷ rs) = rectLine r ++ rectLines rs
 
 -- a list: the sums, and then the rectangles
-unfoldable pub listLines : List Rect → List ℕ
-listLines rs = sumsLine (length rs) (sum areaOf rs) (sum edgeOf rs) ++ rectLines rs
+unfoldable pub listLines : Sums → List Rect → List ℕ
+listLines s rs = sumsLine s ++ rectLines rs
 
 -- a refusal: its number and its place
 unfoldable pub refusalLine : (number place : ℕ) → List ℕ
 refusalLine number place = ascii "refused " ++ (decimal number ++ (ascii " place " ++ (decimal place ++ ascii "\n")))
 
 -- a list, or a refusal
-abbrev pub printed : Verdict → List Rect → List ℕ
-printed accepted rs = listLines rs
-printed (refused k p) rs = refusalLine k p
+abbrev pub printed : Verdict → Sums → List Rect → List ℕ
+printed accepted s rs = listLines s rs
+printed (refused k p) s rs = refusalLine k p
 
 -- what the program prints, of what it reads
 unfoldable pub programPrints : List ℕ → List ℕ
-programPrints t = printed (verdict (programChecks t)) (ruleList (pointsRead t))
+programPrints t = printed (verdict (programChecks t)) (forwardSums (numbersRead t)) (forwardList (numbersRead t))
 
 -- ---- What is reported
 

@@ -3,9 +3,10 @@ ghost use Prim.Native.Nat.{_+_, _*_, _≤_};
 ghost use mathlib.Core.Path.{_≡_};
 ghost use lib.ListN.{length, take};
 ghost use Rattle.plane.specs.Words.{origin, pointsOf, rectsOf, rectSize};
+ghost use Rattle.rule.specs.Answers.{sumsTold};
 ghost use Rattle.numerals.specs.Bytes.{putAt, Put};
 ghost use Rattle.numerals.specs.Inner.{Wrote};
-ghost use Rattle.text.specs.Program.{sumsLine, rectLine, rectLines, refusalLine, namesOne, offender, ProgramDone};
+ghost use Rattle.text.specs.Program.{sumsLine, rectLine, rectLines, refusalLine, namesOne, offender, ProgramDone, printed};
 ghost use Rattle.text.specs.Sentences.{manySays, namesPoint, pointFault, roomSays, textSays, sentence};
 ghost use Rattle.text.specs.Inner.{worded, field, listed, Listed};
 use numerals::put_bytes;
@@ -15,6 +16,8 @@ use panbuckle::ForwardAnswer;
 use panbuckle::Point;
 use panbuckle::Rect;
 use panbuckle::forward;
+use plane::MOST_POINTS;
+use plane::RECT_SIZE;
 use plane::point_at;
 use plane::rect_at;
 use reading::MOST_BYTES;
@@ -27,6 +30,15 @@ use rule::REPEATED;
 use rule::ROOM;
 use rule::ROW;
 use rule::TEXT;
+
+// The most rectangles of a list.
+pub const MOST_LISTED: usize = 3200;
+
+// The most numbers of a list.
+pub const MOST_LIST: usize = RECT_SIZE * MOST_LISTED;
+
+// The most numbers of a working array.
+pub const MOST_WORK: usize = 2 * MOST_POINTS;
 
 // The most bytes that are printed: a line of the sums and 3,200 lines of rectangles.
 pub const MOST_PRINTED: usize = 153679;
@@ -66,8 +78,8 @@ fn put_field(out: &mut [u8], at: usize, z: i32, words: &[u8]) -> usize
 // ---- Lines
 
 fn put_sums(out: &mut [u8], sums: ForwardAnswer) -> usize
-    requires { ⌜ length (sumsLine (sums .count) (sums .area) (sums .edge)) ≤ length (now out) ⌝ }
-    ensures { λ r. ⌜ Wrote (now (out .entry)) 0 (sumsLine (sums .count) (sums .area) (sums .edge)) r (now (out .exit)) ⌝ }
+    requires { ⌜ length (sumsLine (sumsTold sums)) ≤ length (now out) ⌝ }
+    ensures { λ r. ⌜ Wrote (now (out .entry)) 0 (sumsLine (sumsTold sums)) r (now (out .exit)) ⌝ }
 {
     let a = put_worded(out, 0, b"rects ", sums.count as u64);
     let b = put_worded(out, a, b" area ", sums.area);
@@ -184,8 +196,8 @@ fn print_list(out: &mut [u8], sums: ForwardAnswer, rects: &[i32]) -> usize
 fn list(points: &[i32], read: usize, out: &mut [u8]) -> Report
     ensures { λ r. ⌜ Listed (now (points .entry)) read (now (out .entry)) r (now (out .exit)) ⌝ }
 {
-    let mut work: [i32; 8192] = [0; 8192];
-    let mut rects: [i32; 12800] = [0; 12800];
+    let mut work: [i32; MOST_WORK] = [0; MOST_WORK];
+    let mut rects: [i32; MOST_LIST] = [0; MOST_LIST];
     let r = forward(points, &mut work, &mut rects);
     if r.answer == DONE {
         let n = print_list(out, r, &rects);
@@ -205,7 +217,7 @@ fn list(points: &[i32], read: usize, out: &mut [u8]) -> Report
 pub fn answer(input: &[u8], out: &mut [u8]) -> Report
     ensures { λ r. ⌜ ProgramDone (now (input .entry)) (now (out .entry)) r (now (out .exit)) ⌝ }
 {
-    let mut points: [i32; 8192] = [0; 8192];
+    let mut points: [i32; MOST_WORK] = [0; MOST_WORK];
     let r = read_points(input, &mut points);
     if r.answer == DONE {
         let end = 2 * r.count;

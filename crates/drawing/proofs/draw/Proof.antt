@@ -7,7 +7,7 @@ use borrow.Author.Needs.{needs}
 use Rattle.rule.specs.Answers.{ForwardDone}
 use Rattle.panbuckle.proofs.Kept.{lengths-kept}
 use Rattle.text.specs.Program.{mostWork, mostList}
-use Rattle.drawing.proofs.Shown.{list-small, Made, list-made, svg-made}
+use Rattle.drawing.proofs.Shown.{Made, list-made}
 use Rattle.drawing.proofs.draw.Statement.{statement}
 use Rattle.drawing.proofs.draw.Tie as tie
 
@@ -22,7 +22,6 @@ put-picture-requires : tie.Need-put-picture-requires
 put-picture-requires c κs =
     let f = c .before .before .before .before in
     let s = f .before .before .before .before in
-    let few = list-small (s .args .points .now) .0 in
     let room : length (f .forward .last .1 .1 .0) ≡ mostList = lengths-kept (ran f) .1 ∙ length-replicate mostList (pos 0) in
     (s .pre .0, omega (arith, made f .count), omega (arith, made f .count), s .pre .1)
 
@@ -30,7 +29,7 @@ returns : tie.Need-returns
 returns c =
     let p = c .before .before in
     let f = p .before .before .before .before .before in
-    rw (svg-made (f .before .before .before .before .args .r) (made f)) at (p .put-picture .ensures)
+    rw (made f .list, made f .sums) at (p .put-picture .ensures)
 
 pub draw-spec : {M : Type 1} → statement M
 draw-spec =

@@ -1,11 +1,11 @@
 -- `drawing::free_beside` meets its contract.
 use borrow.Author.Needs.{needs}
-use Rattle.drawing.specs.Plan.{beside}
+use Rattle.drawing.specs.Plan.{freeBeside}
 use Rattle.drawing.proofs.free_beside.Statement.{statement}
 use Rattle.drawing.proofs.free_beside.Tie as tie
 
 returns : tie.Need-returns
-unfolding beside
+unfolding freeBeside
 returns c = search needs
 
 pub free-beside-spec : {M : Type 1} → statement M

@@ -6,13 +6,14 @@ use lib.ListN.{length-replicate}
 use lib.Seq.{length-take-le}
 use lib.IntN.{pos}
 use borrow.Author.Needs.{needs}
+use Rattle.text.specs.Program.{mostWork}
 use Rattle.drawing.proofs.Shown.{Read, points-read, picture-shown, drawn, not-drawn}
 use Rattle.drawing.proofs.picture.Statement.{statement}
 use Rattle.drawing.proofs.picture.Tie as tie
 
 -- the reader is lent room for 4,096 points
 read : (c : tie.After-read-points) → Read (c .before .before .before .before .before .args .input .now) (c .read-points .result) (c .read-points .last .1 .0)
-read c = points-read (c .read-points .ensures) (omega (arith, length-replicate 8192 (pos 0)))
+read c = points-read (c .read-points .ensures) (omega (arith, length-replicate mostWork (pos 0)))
 
 draw-requires : tie.Need-draw-requires
 draw-requires c κs =

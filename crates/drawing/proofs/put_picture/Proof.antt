@@ -5,20 +5,18 @@ use lib.ListN.{length, take, length-take}
 use borrow.Author.Needs.{needs}
 use Rattle.plane.specs.Words.{pointsOf, rectsOf}
 use Rattle.plane.proofs.Arrays.{length-points}
-use Rattle.rule.specs.declared.ForwardAnswer.{ForwardAnswer}
+use Rattle.rule.specs.Answers.{sumsTold}
 use Rattle.numerals.proofs.Writing.{wrote, wrote-then}
 use Rattle.drawing.specs.declared.View.{View}
-use Rattle.drawing.specs.Picture.{listPart, pointPart, markPart}
-use Rattle.drawing.specs.Inner.{answerPart}
-use Rattle.drawing.proofs.Parts.{list-part-length, point-part-length, mark-part-length, answer-length, Ends, wrote-most}
+use Rattle.drawing.specs.Picture.{listPart, pointPart, markPart, sayPart, svgOf}
+use Rattle.drawing.proofs.Parts.{list-part-length, point-part-length, mark-part-length, say-part-length, Ends, wrote-most}
 use Rattle.drawing.proofs.put_picture.Statement.{statement}
 use Rattle.drawing.proofs.put_picture.Tie as tie
 
 -- what is said is short
-answer-short : (s : tie.Start) (v : View) → length (answerPart v (s .args .sums) (s .args .r)) ≤ 500
+answer-short : (s : tie.Start) (v : View) → length (sayPart v (sumsTold (s .args .sums)) (s .args .r)) ≤ 500
 answer-short s v =
-    let sums : ForwardAnswer = s .args .sums in
-    answer-length v (sums .count) (sums .area) (sums .edge) (s .args .r) (omega arith) (omega arith) (omega arith) (record { number = omega arith; place = omega arith; x-small = omega arith; y-small = omega arith })
+    say-part-length v (sumsTold (s .args .sums)) (s .args .r) (omega arith) (omega arith) (omega arith) (record { number = omega arith; place = omega arith; x-small = omega arith; y-small = omega arith })
 
 -- where each part ends
 list-ends : (c : tie.After-put-list) → let w = c .before .before in let a = w .before .before .before .args in Ends 520_000 (a .out .now) 0 (listPart (w .view-of .result) (take (a .sums .count) (rectsOf (a .rects .now)))) (c .put-list .result) (c .put-list .last .0)
@@ -46,7 +44,7 @@ mark-ends c =
     let shows = w .view-of .ensures .1 in
     wrote-most 200 (c .put-offender .ensures) (mark-part-length (w .view-of .result) (pointsOf (s .args .points .now)) (s .args .r) (shows .narrow) (shows .low)) (omega (arith, list-ends l, points-end p, s .pre .3))
 
-answer-ends : (c : tie.After-put-answer) → let o = c .before .before .before .before in let w = o .before .before .before .before .before .before .before .before .before .before in let a = w .before .before .before .args in Ends 500 (o .put-offender .last .0) (o .put-offender .result) (answerPart (w .view-of .result) (a .sums) (a .r)) (c .put-answer .result) (c .put-answer .last .0)
+answer-ends : (c : tie.After-put-answer) → let o = c .before .before .before .before in let w = o .before .before .before .before .before .before .before .before .before .before in let a = w .before .before .before .args in Ends 500 (o .put-offender .last .0) (o .put-offender .result) (sayPart (w .view-of .result) (sumsTold (a .sums)) (a .r)) (c .put-answer .result) (c .put-answer .last .0)
 answer-ends c =
     let o = c .before .before .before .before in
     let p = o .before .before .before .before in
@@ -83,6 +81,7 @@ put-answer-requires c κs =
     omega (arith, list-ends l, points-end p, mark-ends o, l .before .before .before .before .before .pre .3)
 
 returns : tie.Need-returns
+unfolding svgOf
 returns c =
     let e = c .before .before in
     let a = e .before .before .before .before .before in

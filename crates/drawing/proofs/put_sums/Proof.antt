@@ -3,15 +3,15 @@ use Prim.Native.Nat.{_≤_}
 use native.Mathlib.Omega.{arith}
 use lib.ListN.{length}
 use borrow.Author.Needs.{needs}
-use Rattle.rule.specs.declared.ForwardAnswer.{ForwardAnswer}
+use Rattle.rule.specs.Answers.{sumsTold}
 use Rattle.drawing.specs.Picture.{listSays}
 use Rattle.drawing.proofs.Parts.{sums-length}
 use Rattle.drawing.proofs.put_sums.Statement.{statement}
 use Rattle.drawing.proofs.put_sums.Tie as tie
 
 -- numbers of 64 bits have few digits
-few : (s : tie.Start) → let sums = s .args .sums in length (listSays (s .args .v) (sums .count) (sums .area) (sums .edge)) ≤ 200
-few s = let sums : ForwardAnswer = s .args .sums in sums-length (s .args .v) (sums .count) (sums .area) (sums .edge) (omega arith) (omega arith) (omega arith)
+few : (s : tie.Start) → length (listSays (s .args .v) (sumsTold (s .args .sums))) ≤ 200
+few s = sums-length (s .args .v) (sumsTold (s .args .sums)) (omega arith) (omega arith) (omega arith)
 
 fill-requires : tie.Need-fill-requires
 unfolding listSays

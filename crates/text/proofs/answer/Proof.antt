@@ -8,7 +8,7 @@ use borrow.Author.Needs.{needs}
 use Rattle.rule.specs.Checks.{verdict, refused}
 use Rattle.reading.specs.Reading.{textChecks, ReadDone}
 use Rattle.reading.proofs.Kept.{AllRead, read-done, read-refused}
-use Rattle.text.proofs.Listing.{fractured-listed, fractured-refused}
+use Rattle.text.proofs.Listing.{program-listed, program-told}
 use Rattle.text.proofs.answer.Statement.{statement}
 use Rattle.text.proofs.answer.Tie as tie
 
@@ -30,12 +30,12 @@ returns : tie.Need-returns
 returns c =
     let l = c .before .before in
     let h = all-read (l .before .before .before .before) in
-    fractured-listed (h .accepts) (rw (h .numbers) at (l .list .ensures))
+    program-listed (h .accepts) (rw (h .numbers) at (l .list .ensures))
 
 returns-2 : tie.Need-returns-2
 returns-2 c =
     let p = c .before .before .before .before in
-    fractured-refused (refuses (p .before .before)) (rw (c .before .none .ensures, p .print-refusal .ensures .0) at (c .reported .ensures)) (p .print-refusal .ensures .1)
+    program-told (refuses (p .before .before)) (rw (c .before .none .ensures, p .print-refusal .ensures .0) at (c .reported .ensures)) (p .print-refusal .ensures .1)
 
 pub answer-spec : {M : Type 1} → statement M
 answer-spec =

@@ -1,13 +1,13 @@
 -- `text::list` meets its contract: forward's answer is printed, and a list fits.
 use native.Mathlib.Omega.{arith}
-use mathlib.Core.Path.{_≡_, _∙_}
+use mathlib.Core.Path.{_≡_, ap, _∙_}
 use lib.ListN.{length, replicate, length-replicate}
 use lib.IntN.{pos}
 use borrow.Author.Needs.{needs}
 use Rattle.rule.specs.Checks.{accepted, refused}
-use Rattle.rule.specs.Answers.{ForwardAccepted, ForwardDone, forwardList}
+use Rattle.rule.specs.Answers.{ForwardAccepted, ForwardDone, forwardList, forwardSums}
 use Rattle.rule.proofs.Refusals.{forward-accepted}
-use Rattle.panbuckle.proofs.Kept.{lengths-kept, done-list, done-sums}
+use Rattle.panbuckle.proofs.Kept.{lengths-kept, done-told}
 use Rattle.text.specs.Program.{mostWork, mostList, listLines}
 use Rattle.text.specs.Inner.{says, listed}
 use Rattle.text.proofs.Longest.{list-fits}
@@ -22,7 +22,7 @@ ran c = c .forward .ensures
 accepts : (c : tie.Then1) → says (c .before .before .before .before .before .before .before .before .args .points .now) ≡ accepted
 accepts c = says-accepted (ran (c .before .before .before .before)) (length-replicate mostWork (pos 0)) (length-replicate mostList (pos 0)) (c .if1 .taken)
 
-lines : (c : tie.Then1) → let f = c .before .before .before .before in listed (f .forward .result) (f .forward .last .1 .1 .0) ≡ listLines (forwardList (f .before .before .before .before .args .points .now))
+lines : (c : tie.Then1) → let f = c .before .before .before .before in listed (f .forward .result) (f .forward .last .1 .1 .0) ≡ let a = f .before .before .before .before .args .points .now in listLines (forwardSums a) (forwardList a)
 lines c = listed-lines (ran (c .before .before .before .before)) (c .if1 .taken)
 
 refuses : (c : tie.Else1) → let f = c .before .before .before .before in says (f .before .before .before .before .args .points .now) ≡ refused (f .forward .result .answer) (f .forward .result .place)
@@ -36,8 +36,7 @@ print-list-requires c κs =
     let f = t .before .before .before .before in
     let a = f .before .before .before .before .args .points .now in
     let ok : ForwardAccepted a mostWork mostList = forward-accepted a mostWork mostList .0 (accepts t) in
-    let list = done-list (ran f) (t .if1 .taken) in
-    let count : f .forward .result .count ≡ length (forwardList a) = rw list at (done-sums (ran f) (t .if1 .taken) .0) in
+    let count : f .forward .result .count ≡ forwardSums a .count = ap (λ s. s .count) (done-told (ran f) (t .if1 .taken)) in
     let room : length (f .forward .last .1 .1 .0) ≡ mostList = lengths-kept (ran f) .1 ∙ length-replicate mostList (pos 0) in
     (omega (arith, ok .room), rw (lines t) (list-fits a mostWork ok))
 

@@ -6,6 +6,7 @@ use mathlib.Core.List.{List, _++_}
 use lib.ListN.{length, take}
 use borrow.Author.Needs.{needs}
 use Rattle.plane.specs.Words.{rectsOf}
+use Rattle.rule.specs.Answers.{sumsTold}
 use Rattle.text.specs.Program.{sumsLine, rectLines}
 use Rattle.numerals.proofs.Writing.{wrote-front, wrote-within, wrote-then, room-first, room-then}
 use Rattle.text.proofs.print_through.Statement.{statement}
@@ -13,7 +14,7 @@ use Rattle.text.proofs.print_through.Tie as tie
 
 -- the line of the sums, and the lines of the rectangles
 abbrev sums : tie.Start → List ℕ
-sums s = sumsLine (s .args .sums .count) (s .args .sums .area) (s .args .sums .edge)
+sums s = sumsLine (sumsTold (s .args .sums))
 
 abbrev rects : tie.Start → List ℕ
 rects s = rectLines (take (s .args .sums .count) (rectsOf (s .args .rects .now)))

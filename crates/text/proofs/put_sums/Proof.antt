@@ -5,6 +5,7 @@ use mathlib.Core.Path.{ap}
 use mathlib.Core.List.{List, _++_}
 use lib.ListN.{length}
 use borrow.Author.Needs.{needs}
+use Rattle.rule.specs.Answers.{sumsTold}
 use Rattle.numerals.specs.Bytes.{ascii}
 use Rattle.text.specs.Inner.{worded}
 use Rattle.numerals.proofs.Writing.{wrote, wrote-then, room-first, room-then}
@@ -30,7 +31,7 @@ from-area s = area s ++ from-edge s
 
 -- there is room for what is left
 room₁ : (s : tie.Start) → 0 + length (count s ++ from-area s) ≤ length (s .args .out .now)
-room₁ s = omega (arith, ap length (sums-pieces (s .args .sums .count) (s .args .sums .area) (s .args .sums .edge)), s .pre)
+room₁ s = omega (arith, ap length (sums-pieces (sumsTold (s .args .sums))), s .pre)
 
 room₂ : (c : tie.After-put-worded) → let s = c .before .before .before .before in c .put-worded .result + length (from-area s) ≤ length (c .put-worded .last .0)
 room₂ c = let s = c .before .before .before .before in room-then (from-area s) (c .put-worded .ensures) (room₁ s)
@@ -66,7 +67,7 @@ returns c =
     let end = wrote (w .put-bytes .ensures) (room-then (ascii "\n") (e .put-worded3 .ensures) (room₃ a)) in
     let from₃ = wrote-then (e .put-worded3 .ensures) end (room-first _ _ (edge s) (ascii "\n") (room₃ a)) in
     let from₂ = wrote-then (a .put-worded2 .ensures) from₃ (room-first _ _ (area s) (from-edge s) (room₂ n)) in
-    rw (sums-pieces (s .args .sums .count) (s .args .sums .area) (s .args .sums .edge)) (wrote-then (n .put-worded .ensures) from₂ (room-first 0 _ (count s) (from-area s) (room₁ s)))
+    rw (sums-pieces (sumsTold (s .args .sums))) (wrote-then (n .put-worded .ensures) from₂ (room-first 0 _ (count s) (from-area s) (room₁ s)))
 
 pub put-sums-spec : {M : Type 1} → statement M
 put-sums-spec =

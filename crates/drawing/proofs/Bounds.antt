@@ -3,10 +3,11 @@ use Prim.Native.Nat.{ℕ, _+_, _-_, _/_, _≤_}
 use native.Mathlib.Nat.{min-le-right, div-le-of-le-mul}
 use native.Mathlib.Omega.{arith}
 use Rattle.plane.specs.declared.Rect.{Rect}
+use Rattle.plane.specs.Keys.{raised}
 use Rattle.drawing.specs.declared.Frame.{Frame}
 use Rattle.drawing.specs.declared.View.{View}
 use Rattle.drawing.specs.declared.Box.{Box}
-use Rattle.drawing.specs.Plan.{raised, extent, spanOf, scaled, viewOf, across, down, freeBeside, boxOf, numberSize, dotRadius}
+use Rattle.drawing.specs.Plan.{extent, spanOf, scaled, viewOf, across, down, freeBeside, boxOf, numberSize, dotRadius}
 use Rattle.drawing.specs.Inner.{IsSmall}
 
 -- what is scaled is at most 100,000

@@ -9,6 +9,7 @@ use lib.Dec.{eqb}
 use Rattle.plane.specs.declared.Point.{Point}
 use Rattle.plane.specs.declared.Rect.{Rect}
 use Rattle.plane.specs.Words.{pointAt, rectAt}
+use Rattle.plane.specs.Keys.{raised}
 use Rattle.plane.proofs.Bools.{cond-case}
 use Rattle.rule.specs.Answers.{Sums}
 use Rattle.numerals.specs.Inner.{Wrote}
@@ -18,7 +19,7 @@ use Rattle.text.specs.Program.{namesOne}
 use Rattle.text.proofs.Lengths.{ReportFits, sentence-length}
 use Rattle.drawing.specs.declared.View.{View}
 use Rattle.drawing.specs.declared.Box.{Box}
-use Rattle.drawing.specs.Plan.{raised, boxOf, dotRadius}
+use Rattle.drawing.specs.Plan.{boxOf, dotRadius}
 use Rattle.drawing.specs.Picture.{headOf, blockOf, blocks, dotOf, dots, markOf, listSays, refusedSays, refusalSays, listPart, pointPart, markPart, sayPart}
 use Rattle.drawing.specs.Inner.{IsSmall}
 use Rattle.drawing.proofs.Bounds.{across-most, down-most, beside-most, size-most, radius-most, box-small}

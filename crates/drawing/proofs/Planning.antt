@@ -1,30 +1,17 @@
 -- Where things stand: how the frame grows point by point, and that a view is scaled by a span of its size.
-use Prim.Native.Nat.{ℕ, suc, _+_, _^_, _<_, _≤_}
+use Prim.Native.Nat.{ℕ, _+_, _<_, _≤_}
 use native.Mathlib.Numerals.{add-one}
 use native.Mathlib.Omega.{arith}
 use mathlib.Core.Path.{_≡_, refl}
-use mathlib.Core.Bool.{false}
 use mathlib.Core.List.{List, [], _∷_}
-use lib.Dec.{ltb}
-use lib.IntN.{ℤ, pos, negsuc, _+ℤ_}
 use lib.ListN.{length, drop}
 use lib.Seq.{drop-cons}
-use lib.Signed.{mag}
-use borrow.Author.Tests.{le-ltb}
 use Rattle.plane.specs.declared.Point.{Point}
 use Rattle.plane.specs.Words.{origin, pointAt}
 use Rattle.drawing.specs.declared.Frame.{Frame}
-use Rattle.drawing.specs.Plan.{raised, about, widened, widenedBy, frameOf, spanOf, viewOf}
+use Rattle.drawing.specs.Plan.{about, widened, widenedBy, frameOf, spanOf, viewOf}
 use Rattle.drawing.specs.Inner.{IsRaised, ShowsAll}
 use Rattle.drawing.proofs.Bounds.{view-narrow, view-low}
-
--- ---- Numbers
-
--- a number of 32 bits, raised, is not below 0, and is below 2^32
-pub raised-small : (z : ℤ) → mag z < 2 ^ 31 → (z +ℤ pos 2_147_483_648 ≡ pos (raised z)) × (raised z < 4_294_967_296)
-unfolding raised
-raised-small (pos n) h = (refl, omega arith)
-raised-small (negsuc n) h = let e : ltb 2_147_483_648 (suc n) ≡ false = le-ltb 2_147_483_648 (suc n) (omega arith) in rw e (refl, omega arith)
 
 -- ---- The frame
 

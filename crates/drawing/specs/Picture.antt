@@ -9,6 +9,7 @@ use lib.Dec.{eqb, leb}
 use Rattle.plane.specs.declared.Point.{Point}
 use Rattle.plane.specs.declared.Rect.{Rect}
 use Rattle.plane.specs.Words.{flatPoints}
+use Rattle.plane.specs.Keys.{raised}
 use Rattle.rule.specs.Checks.{Verdict, accepted, refused, verdict}
 use Rattle.rule.specs.Answers.{forwardChecks, Sums, sumsTold, forwardList, forwardAnswer}
 use Rattle.numerals.specs.Bytes.{ascii, pasted}
@@ -19,7 +20,7 @@ use Rattle.text.specs.Program.{mostWork, mostList, namesOne, programReport}
 use Rattle.text.specs.Sentences.{sentence}
 use Rattle.drawing.specs.declared.View.{View}
 use Rattle.drawing.specs.declared.Box.{Box}
-use Rattle.drawing.specs.Plan.{raised, frameOf, viewOf, across, down, freeBeside, boxOf, numberSize, dotRadius}
+use Rattle.drawing.specs.Plan.{frameOf, viewOf, across, down, freeBeside, boxOf, numberSize, dotRadius}
 
 -- ---- Templates
 

@@ -1,18 +1,15 @@
 -- Where a picture shows what: the points' frame, how it is scaled, and the place of each thing. Units are a hundredth of a pixel.
 use Prim.Native.Nat.{ℕ, _+_, _-_, _*_, _/_, min, max}
 use mathlib.Core.List.{List, [], _∷_}
-use lib.IntN.{ℤ, pos, negsuc, natAbs, _+ℤ_}
+use lib.IntN.{ℤ, pos, negsuc}
 use Rattle.plane.specs.declared.Point.{Point}
 use Rattle.plane.specs.declared.Rect.{Rect}
+use Rattle.plane.specs.Keys.{raised}
 use Rattle.drawing.specs.declared.Frame.{Frame}
 use Rattle.drawing.specs.declared.View.{View}
 use Rattle.drawing.specs.declared.Box.{Box}
 
 -- ---- Numbers
-
--- how far a number of 32 bits is above the least
-unfoldable pub raised : ℤ → ℕ
-raised z = natAbs (z +ℤ pos 2_147_483_648)
 
 -- a side's length; 0 for one below 0
 abbrev pub extent : ℤ → ℕ

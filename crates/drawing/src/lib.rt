@@ -6,9 +6,10 @@ ghost use lib.ListN.{length, take, getD};
 ghost use lib.Dec.{eqb};
 ghost use Rattle.plane.specs.Lists.{bit};
 ghost use Rattle.plane.specs.Words.{pointsOf, rectsOf, rectSize};
+ghost use Rattle.plane.specs.Keys.{raised};
 ghost use Rattle.rule.specs.Answers.{sumsTold, listOf};
 ghost use Rattle.numerals.specs.Inner.{Wrote};
-ghost use Rattle.drawing.specs.Plan.{extent, raised, about, widened, frameOf, spanOf, scaled, viewOf, across, down, freeBeside, boxOf, numberSize, dotRadius};
+ghost use Rattle.drawing.specs.Plan.{extent, about, widened, frameOf, spanOf, scaled, viewOf, across, down, freeBeside, boxOf, numberSize, dotRadius};
 ghost use Rattle.drawing.specs.Picture.{blank, filled, headOf, blockOf, blocks, dotOf, dots, markOf, listSays, refusedSays, refusalSays, listPart, pointPart, markPart, svgOf, Drawn, listShown, sumsShown, sayPart};
 ghost use Rattle.drawing.specs.Inner.{piece, IsRaised, ShowsAll, IsSmall};
 ghost use Rattle.text.specs.Program.{programReport, mostListed, mostWork};
@@ -20,6 +21,7 @@ use panbuckle::Point;
 use panbuckle::Rect;
 use panbuckle::forward;
 use plane::point_at;
+use plane::raise;
 use plane::rect_at;
 use reading::read_points;
 use rule::COLUMN;
@@ -82,14 +84,6 @@ fn gap(a: u64, b: u64) -> u64
     ensures { λ r. ⌜ r ≡ a - b ⌝ }
 {
     if a < b { 0 } else { a - b }
-}
-
-// How far a number is above -2^31.
-fn raise(z: i32) -> u64
-    ensures { λ r. ⌜ r ≡ raised z ⌝ }
-    ensures { λ r. ⌜ r < 4_294_967_296 ⌝ }
-{
-    (z as i64 + 2147483648) as u64
 }
 
 // A side's length, and 0 for one below 0.

@@ -14,11 +14,13 @@ use Rattle.plane.specs.declared.Point.{Point}
 use Rattle.plane.specs.declared.Rect.{Rect}
 use Rattle.plane.specs.Lists.{odd, only}
 use Rattle.plane.specs.Words.{flatPoints, cornersOf, pointInRange, risingAfter, rising, rectAt}
+use Rattle.plane.specs.Keys.{keyOf}
 use Rattle.plane.proofs.Bools.{and-make, xor-false, false-xor}
 use Rattle.plane.proofs.Sums.{keep-append, in-only, length-only, only-all, only-none}
 use Rattle.plane.proofs.Parity.{odd-none-of, odd-only}
 use Rattle.plane.proofs.Rising.{rising-before, rising-rest, only-rising}
 use Rattle.plane.proofs.Arrays.{length-flat-points, flat-append}
+use Rattle.plane.proofs.Keys.{key-order, range-fits}
 use Rattle.rule.specs.Back.{corners, backList}
 use Rattle.rule.specs.Answers.{written}
 use Rattle.rule.specs.Checks.{accepted}
@@ -26,8 +28,8 @@ use Rattle.rule.specs.Rows.{AcceptedRects}
 use Rattle.rule.proofs.Backward.{back-rising, back-alike, back-accepted}
 use Rattle.rule.proofs.Memory.{written-part}
 use Rattle.outline.specs.declared.Batch.{Batch}
-use Rattle.outline.specs.Inner.{endOfKeys, keyOf, AreKeys, keysOf, pointsAt, climbsAfter, climbs, OddOnes, mostKeys, within, Gathers, batchOf, IsBatch}
-use Rattle.outline.proofs.Keys.{key-small, key-order, length-keys, keys-append, odd-keys, keys-are, keys-points}
+use Rattle.outline.specs.Inner.{firstKey, endOfKeys, keysOf, pointsAt, climbsAfter, climbs, OddOnes, mostKeys, within, Gathers, batchOf, IsBatch}
+use Rattle.outline.proofs.Keys.{key-within, length-keys, keys-append, odd-keys, keys-points}
 use Rattle.outline.proofs.Climbs.{climbs-unique}
 
 -- ---- The keys of a batch
@@ -36,7 +38,7 @@ use Rattle.outline.proofs.Climbs.{climbs-unique}
 keys-climb-after : (p : Point) (ps : List Point) → ((q : Point) → In q (p ∷ ps) → pointInRange q ≡ true) → climbsAfter (keyOf p) (keysOf ps) ≡ risingAfter p ps
 unfolding climbsAfter keysOf risingAfter
 keys-climb-after p [] range = refl
-keys-climb-after p (q ∷ ps) range = rw (key-order p q (range p (head refl)) (range q (tail (head refl))), keys-climb-after q ps (λ r m. range r (tail m)))
+keys-climb-after p (q ∷ ps) range = rw (key-order p q (range-fits p (range p (head refl))) (range-fits q (range q (tail (head refl)))), keys-climb-after q ps (λ r m. range r (tail m)))
 
 -- and so in a list
 keys-climb : (ps : List Point) → ((q : Point) → In q ps → pointInRange q ≡ true) → climbs (keysOf ps) ≡ rising ps
@@ -98,14 +100,19 @@ within-past : (start mid k : ℕ) → mid ≤ k → within start mid k ≡ false
 unfolding within
 within-past start mid k h = rw (le-ltb k mid h) (and-false (leb start k))
 
--- from 0 to below 0 there is nothing
-pub batch-none : (ps : List Point) → batchOf 0 0 ps ≡ []
-batch-none ps = only-none _ ps (λ p m. within-past 0 0 (keyOf p) (omega arith))
-
--- from 0 to the end of all keys there is everything
-batch-all : (ps : List Point) → ((q : Point) → In q ps → pointInRange q ≡ true) → batchOf 0 endOfKeys ps ≡ ps
+-- from a key to below it there is nothing
+pub batch-none : (k : ℕ) (ps : List Point) → batchOf k k ps ≡ []
 unfolding within
-batch-all ps range = only-all _ ps (λ p m. and-make _ _ (le-leb 0 (keyOf p) (omega arith)) (lt-ltb (keyOf p) _ (key-small p (range p m))))
+batch-none k ps = only-none _ ps (λ p m. go (keyOf p) (ltb (keyOf p) k) refl)
+  where
+    go : (j : ℕ) (t : Bool) → ltb j k ≡ t → (leb k j && t) ≡ false
+    go j true e = rw (lt-leb k j (ltb-true j k e))
+    go j false e = and-false (leb k j)
+
+-- from the first key to the end of all keys there is everything
+batch-all : (ps : List Point) → ((q : Point) → In q ps → pointInRange q ≡ true) → batchOf firstKey endOfKeys ps ≡ ps
+unfolding within
+batch-all ps range = only-all _ ps (λ p m. let k = key-within p (range p m) in and-make _ _ (le-leb _ (keyOf p) (k .0)) (lt-ltb (keyOf p) _ (k .1)))
 
 module _ (start mid end : ℕ) (first : start ≤ mid) (then : mid ≤ end) where
   -- a key from the second batch's start on is of it just if it is of both in one
@@ -125,7 +132,7 @@ module _ (start mid end : ℕ) (first : start ≤ mid) (then : mid ≤ end) wher
   batches-join (p ∷ ps) e range = go (batches-join ps (rising-rest p ps e) (λ q m. range q (tail m))) (ltb (keyOf p) mid) refl
     where
       past : mid ≤ keyOf p → batchOf start mid ps ≡ []
-      past h = only-none _ ps (λ q m. within-past start mid (keyOf q) (let l = ltb-true (keyOf p) (keyOf q) (key-order p q (range p (head refl)) (range q (tail m)) ∙ rising-before p e m) in omega arith))
+      past h = only-none _ ps (λ q m. within-past start mid (keyOf q) (let l = ltb-true (keyOf p) (keyOf q) (key-order p q (range-fits p (range p (head refl))) (range-fits q (range q (tail m))) ∙ rising-before p e m) in omega arith))
 
       go : batchOf start mid ps ++ batchOf mid end ps ≡ batchOf start end ps → (b : Bool) → ltb (keyOf p) mid ≡ b → batchOf start mid (p ∷ ps) ++ batchOf mid end (p ∷ ps) ≡ batchOf start end (p ∷ ps)
       go ih true d = let h = within-first (keyOf p) (ltb-true (keyOf p) mid d) in rw (h .1, h .0, keep-append, ih)
@@ -137,29 +144,25 @@ module _ (start mid end : ℕ) (first : start ≤ mid) (then : mid ≤ end) wher
 
 module _ {rs : List Rect} (acc : AcceptedRects rs) where
   -- up to the end of all keys there is the whole answer
-  pub answer-all : batchOf 0 endOfKeys (backList rs) ≡ backList rs
+  pub answer-all : batchOf firstKey endOfKeys (backList rs) ≡ backList rs
   answer-all = batch-all (backList rs) (back-accepted rs acc .range)
 
   -- the batch that follows those before the start
-  module _ {start asked : ℕ} {b : Batch} {ks : List ℕ} (t : IsBatch (backList rs) start asked b ks) where
-    -- its keys are keys
-    pub batch-are-keys : AreKeys ks
-    batch-are-keys = rw (t .keys) (keys-are (batchOf start (b .end) (backList rs)) (batch-range acc start (b .end)))
-
+  module _ {start asked : ℕ} {b : Batch} {ks : List ℕ} (from : firstKey ≤ start) (t : IsBatch (backList rs) start asked b ks) where
     -- with it there are all before its end
-    batch-joins : batchOf 0 start (backList rs) ++ batchOf start (b .end) (backList rs) ≡ batchOf 0 (b .end) (backList rs)
-    batch-joins = batches-join 0 start (b .end) (omega arith) (omega (arith, t .beyond)) (backList rs) (back-rising rs) (back-accepted rs acc .range)
+    batch-joins : batchOf firstKey start (backList rs) ++ batchOf start (b .end) (backList rs) ≡ batchOf firstKey (b .end) (backList rs)
+    batch-joins = batches-join firstKey start (b .end) from (omega (arith, t .beyond)) (backList rs) (back-rising rs) (back-accepted rs acc .range)
 
     -- so many are listed with it
-    pub batch-listed : {listed : ℕ} → length ks ≡ b .count → listed ≡ length (batchOf 0 start (backList rs)) → listed + b .count ≡ length (batchOf 0 (b .end) (backList rs))
+    pub batch-listed : {listed : ℕ} → length ks ≡ b .count → listed ≡ length (batchOf firstKey start (backList rs)) → listed + b .count ≡ length (batchOf firstKey (b .end) (backList rs))
     batch-listed n e =
         let batch : List Point = batchOf start (b .end) (backList rs) in
-        omega (arith, length-append (batchOf 0 start (backList rs)) batch, ap length batch-joins, ap length (t .keys), length-keys batch)
+        omega (arith, length-append (batchOf firstKey start (backList rs)) batch, ap length batch-joins, ap length (t .keys), length-keys batch)
 
     -- its points, written into the part after those before, are written after them
-    pub batch-written : (out : List ℤ) {listed : ℕ} {points part : List ℤ} → listed ≡ length (batchOf 0 start (backList rs)) → points ≡ written accepted (flatPoints (batchOf 0 start (backList rs))) out → let n = length points - 2 * listed in part ≡ written accepted (flatPoints (pointsAt ks)) (take n (drop (2 * listed) points)) → take (2 * listed) points ++ (part ++ drop n (drop (2 * listed) points)) ≡ written accepted (flatPoints (batchOf 0 (b .end) (backList rs))) out
+    pub batch-written : (out : List ℤ) {listed : ℕ} {points part : List ℤ} → listed ≡ length (batchOf firstKey start (backList rs)) → points ≡ written accepted (flatPoints (batchOf firstKey start (backList rs))) out → let n = length points - 2 * listed in part ≡ written accepted (flatPoints (pointsAt ks)) (take n (drop (2 * listed) points)) → take (2 * listed) points ++ (part ++ drop n (drop (2 * listed) points)) ≡ written accepted (flatPoints (batchOf firstKey (b .end) (backList rs))) out
     batch-written out {listed} e w p =
-        let before : List Point = batchOf 0 start (backList rs) in
+        let before : List Point = batchOf firstKey start (backList rs) in
         let batch : List Point = batchOf start (b .end) (backList rs) in
         rw (p, t .keys, keys-points batch (batch-range acc start (b .end)), w, ← batch-joins, flat-append before batch)
         (written-part (flatPoints before) (flatPoints batch) out (2 * listed) (omega (arith, length-flat-points before)))

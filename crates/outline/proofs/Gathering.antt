@@ -13,15 +13,16 @@ use Rattle.plane.specs.declared.Point.{Point}
 use Rattle.plane.specs.declared.Rect.{Rect}
 use Rattle.plane.specs.Lists.{odd}
 use Rattle.plane.specs.Words.{pointInRange, rectInRange, flat, cornersOf, right}
+use Rattle.plane.specs.Keys.{keyOf}
 use Rattle.plane.proofs.Bools.{clash, by, by-no, and-parts, and-make, or-parts, xor-false, xor-assoc}
 use Rattle.plane.proofs.Parity.{odd-cons, odd-none-of, odd-none, odd-append, odd-cong}
 use Rattle.plane.proofs.Places.{in-at}
 use Rattle.plane.proofs.Points.{before-along}
+use Rattle.plane.proofs.Keys.{key-order, range-fits}
 use Rattle.rule.proofs.Backward.{solid-sides, corner-range}
 use Rattle.outline.specs.declared.Batch.{Batch}
-use Rattle.outline.specs.Inner.{keyOf, keysOf, cornerAt, climbs, OddOnes, mostKeys, within, misses, Gathers, Takes, RoomMade}
+use Rattle.outline.specs.Inner.{keysOf, cornerAt, climbs, OddOnes, mostKeys, within, misses, Gathers, Takes, RoomMade}
 use Rattle.outline.proofs.Climbs.{climbs-odd, climbs-first, climbs-cut}
-use Rattle.outline.proofs.Keys.{key-order}
 
 -- ---- A key's reach
 
@@ -150,7 +151,7 @@ corner-keys r solid range a b c d = record { keys = rw (a, b, c, d); low = omega
     rises at-top =
         let p = cornerAt r false at-top in
         let q = cornerAt r true at-top in
-        ltb-true (keyOf p) (keyOf q) (key-order p q (corner-in-range r false at-top refl range) (corner-in-range r true at-top refl range) ∙ before-along (r .x) (right r) (p .y) (solid-sides r solid .0))
+        ltb-true (keyOf p) (keyOf q) (key-order p q (range-fits p (corner-in-range r false at-top refl range)) (range-fits q (corner-in-range r true at-top refl range)) ∙ before-along (r .x) (right r) (p .y) (solid-sides r solid .0))
 
 -- taken one after another, they are taken
 pub takes-corners : {start left right top-left top-right : ℕ} {r : Rect} {a b c d e : Batch} {x y z u v : List ℕ} → CornerKeys r left right top-left top-right → Takes start (left ∷ []) a x b y → Takes start (right ∷ []) b y c z → Takes start (top-left ∷ []) c z d u → Takes start (top-right ∷ []) d u e v → Takes start (keysOf (cornersOf r)) a x e v

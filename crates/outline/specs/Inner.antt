@@ -1,15 +1,16 @@
 -- What the private functions speak of. No caller needs these definitions: the promise is in the crate `rule`.
-use Prim.Native.Nat.{ℕ, _+_, _*_, _/_, _%_, _<_, _≤_}
+use Prim.Native.Nat.{ℕ, _+_, _*_, _<_, _≤_}
 use mathlib.Core.Path.{_≡_}
 use mathlib.Core.Bool.{Bool, true, false, not, cond, _&&_, _||_, xor}
-use mathlib.Core.List.{List, [], _∷_, _++_, List·Memᴰ as In}
+use mathlib.Core.List.{List, [], _∷_, _++_}
 use lib.ListN.{length, take}
-use lib.IntN.{ℤ, pos, natAbs, _+ℤ_, _-ℤ_}
+use lib.IntN.{ℤ, _+ℤ_}
 use lib.Dec.{eqb, leb, ltb}
 use Rattle.plane.specs.declared.Point.{Point}
 use Rattle.plane.specs.declared.Rect.{Rect}
 use Rattle.plane.specs.Lists.{odd, only}
-use Rattle.plane.specs.Words.{highEnd, inRange, rectInRange, flat, right, top, rectAt}
+use Rattle.plane.specs.Words.{inRange, rectInRange, flat, right, top, rectAt}
+use Rattle.plane.specs.Keys.{keyOf, pointOf, rowStep}
 use Rattle.rule.specs.Checks.{Check, each}
 use Rattle.outline.specs.declared.Batch.{Batch}
 
@@ -29,37 +30,13 @@ rectCheck number rs = each number (length rs) (λ i. rectOffends number (rectAt 
 
 -- ---- Keys
 
--- how far a number is above the low end of the range
-unfoldable pub fromLow : ℤ → ℕ
-fromLow z = natAbs (z +ℤ highEnd)
+-- no key of a point in range is below this one: that of the low end's row
+abbrev pub firstKey : ℕ
+firstKey = 1_147_483_648 * rowStep
 
--- from a key to the one of the next row
-abbrev pub rowStep : ℕ
-rowStep = 4_294_967_296
-
--- above every key
+-- above every key of a point in range
 abbrev pub endOfKeys : ℕ
-endOfKeys = 2_000_000_001 * rowStep
-
--- a point's key: a row's step for each row, and 1 for each column
-unfoldable pub keyOf : Point → ℕ
-keyOf p = fromLow (p .y) * rowStep + fromLow (p .x)
-
--- the number that is so far above the low end
-abbrev pub above : ℕ → ℤ
-above n = pos n -ℤ highEnd
-
--- the point of a key
-unfoldable pub pointOf : ℕ → Point
-pointOf k = record { x = above (k % rowStep); y = above (k / rowStep) }
-
--- a number that is the key of a point in range
-unfoldable pub isKey : ℕ → Bool
-isKey k = leb (k % rowStep) 2_000_000_000 && leb (k / rowStep) 2_000_000_000
-
--- numbers that are keys of points in range
-pub record AreKeys (ks : List ℕ) : Type 0 where
-  pub each-is : (k : ℕ) → In k ks → isKey k ≡ true
+endOfKeys = 3_147_483_649 * rowStep
 
 -- the keys of points
 unfoldable pub keysOf : List Point → List ℕ

@@ -1,7 +1,7 @@
 // The corner points of a list of rectangles: the points of its outline.
 // The public function is `backward`, at the end. What it promises, the rule, the refusals and the answer are the definitions of the crate
 // `rule`.
-// A point is told by a number, its key, that rises in the order of y, then x. The keys of all corners would be half a mebibyte, so the
+// A point is told by its key, a number that rises in the order of y, then x. The keys of all corners would be half a mebibyte, so the
 // points are listed in batches: one pass over the rectangles gathers the lowest keys from a start on, as many as a small array holds.
 ghost use mathlib.Core.Path.{_≡_};
 ghost use mathlib.Core.Bool.{cond, true, false};
@@ -9,19 +9,22 @@ ghost use mathlib.Core.List.{[], _∷_};
 ghost use mathlib.Core.Option.{Option·getD};
 ghost use lib.ListN.{length, take};
 ghost use Prim.Native.Nat.{_+_, _*_, _/_, _<_, _≤_};
-ghost use Rattle.plane.specs.Words.{inRange, pointInRange, rectInRange, flat, cornersOf, rectsOf, flatPoints, rectSize};
+ghost use Rattle.plane.specs.Words.{rectInRange, flat, cornersOf, rectsOf, flatPoints, rectSize};
 ghost use Rattle.sorting.specs.Sorted.{sorted};
 ghost use Rattle.rule.specs.Back.{backList};
 ghost use Rattle.rule.specs.Answers.{written, BackwardAccepted, BackwardDone};
 ghost use Rattle.rule.specs.Checks.{accepted, placeGiven};
 ghost use Rattle.rule.specs.Rows.{AcceptedRects};
-ghost use Rattle.outline.specs.Inner.{spansRange, rectOffends, rectCheck, fromLow, above, keyOf, pointOf, keysOf, pointsAt, isKey, endOfKeys, AreKeys, cornerAt, misses, endsWith, OddOnes, mostKeys, Takes, RoomMade, IsBatch};
+ghost use Rattle.outline.specs.Inner.{spansRange, rectOffends, rectCheck, keysOf, pointsAt, endOfKeys, cornerAt, misses, endsWith, OddOnes, mostKeys, Takes, RoomMade, IsBatch};
 use plane::HIGH_END;
 use plane::LOW_END;
 use plane::MOST_RECTS;
 use plane::Point;
 use plane::RECT_SIZE;
+use plane::ROW_STEP;
 use plane::Rect;
+use plane::key_of;
+use plane::point_of;
 use plane::rect_at;
 use rule::BackwardAnswer;
 use rule::DONE;
@@ -87,44 +90,11 @@ fn first_bad(rects: &[i32], number: u32) -> usize
 
 // ---- Keys
 
-// From a key to the one of the next row.
-const ROW_STEP: u64 = 4_294_967_296;
+// No key of a point in range is below this one: that of the low end's row.
+const START: u64 = 1_147_483_648 * ROW_STEP;
 
-// Above every key.
-const END: u64 = 2_000_000_001 * ROW_STEP;
-
-// How far a coordinate is above the low end of the range.
-fn from_low(z: i32) -> u64
-    requires { ⌜ inRange z ≡ true ⌝ }
-    ensures { λ r. ⌜ r ≡ fromLow z ⌝ }
-{
-    ((z as i64) + HIGH) as u64
-}
-
-// The coordinate that is so far above the low end.
-fn above_low(n: u64) -> i32
-    requires { ⌜ n ≤ 2_000_000_000 ⌝ }
-    ensures { λ r. ⌜ r ≡ above n ⌝ }
-{
-    ((n as i64) - HIGH) as i32
-}
-
-fn key_of(p: Point) -> u64
-    requires { ⌜ pointInRange p ≡ true ⌝ }
-    ensures { λ r. ⌜ r ≡ keyOf p ⌝ }
-{
-    from_low(p.y) * ROW_STEP + from_low(p.x)
-}
-
-fn point_of(k: u64) -> Point
-    requires { ⌜ isKey k ≡ true ⌝ }
-    ensures { λ r. ⌜ r ≡ pointOf k ⌝ }
-{
-    Point {
-        x: above_low(k % ROW_STEP),
-        y: above_low(k / ROW_STEP),
-    }
-}
+// Above every key of a point in range.
+const END: u64 = 3_147_483_649 * ROW_STEP;
 
 // A rectangle's corner, at its right or its left, at its top or its bottom.
 fn corner(r: Rect, right: bool, top: bool) -> Point
@@ -275,7 +245,7 @@ fn gather(rects: &[i32], keys: &mut [u64], start: u64, end: u64) -> Batch
 
 // Writes the points of the first n keys.
 fn put_points(keys: &[u64], n: usize, points: &mut [i32])
-    requires { ⌜ (n ≤ length (now keys)) × (2 * n ≤ length (now points)) × AreKeys (take n (now keys)) ⌝ }
+    requires { ⌜ (n ≤ length (now keys)) × (2 * n ≤ length (now points)) ⌝ }
     ensures { λ r. ⌜ now (points .exit) ≡ written accepted (flatPoints (pointsAt (take n (now (keys .entry))))) (now (points .entry)) ⌝ }
 {
     let mut i = 0;
@@ -309,7 +279,7 @@ fn list_points(rects: &[i32], keys: &mut [u64], points: &mut [i32], writes: bool
     ensures { λ r. ⌜ r ≡ length (backList (rectsOf (now (rects .entry)))) ⌝ }
     ensures { λ r. ⌜ now (points .exit) ≡ cond writes (written accepted (flatPoints (backList (rectsOf (now (rects .entry))))) (now (points .entry))) (now (points .entry)) ⌝ }
 {
-    let mut start = 0;
+    let mut start = START;
     let mut end = END;
     let mut listed = 0;
     while start < END {

@@ -23,6 +23,7 @@ pub use plane::MOST_POINTS;
 pub use plane::MOST_RECTS;
 pub use plane::Point;
 pub use plane::Rect;
+use plane::origin;
 use plane::point_at;
 pub use rule::BackwardAnswer;
 pub use rule::COLUMN;
@@ -69,12 +70,6 @@ fn corner(p: Point, q: Point) -> Point
     Point { x: p.x, y: q.y }
 }
 
-fn zero() -> Point
-    ensures { λ r. ⌜ r ≡ origin ⌝ }
-{
-    Point { x: 0, y: 0 }
-}
-
 // ---- Points in an array
 
 fn put_point(a: &mut [i32], i: usize, p: Point)
@@ -113,7 +108,7 @@ fn toggled(a: &mut [i32], n: usize, p: Point) -> usize
         let last = n - 1;
         let q = point_at(a, last);
         put_point(a, i, q);
-        put_point(a, last, zero());
+        put_point(a, last, origin());
         last
     } else {
         put_point(a, n, p);
@@ -318,7 +313,7 @@ fn take_rectangle(work: &mut [i32], n: usize) -> StepAnswer
     requires { ⌜ StepAccepted (now work) n ⌝ }
     ensures { λ r. ⌜ StepDone (now (work .entry)) n r (now (work .exit)) ⌝ }
 {
-    let k = first_of(work, n, Seek::Any, zero());
+    let k = first_of(work, n, Seek::Any, origin());
     let l = first_of(work, n, Seek::RightOf { k: k }, k);
     let m = stop_row(work, n, k, l);
     let count = toggle_four(work, n, k, l, m);

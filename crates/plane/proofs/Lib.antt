@@ -11,4 +11,5 @@ pub mod Cells
 pub mod Grid
 pub mod Arrays
 pub mod Places
+pub mod Keys
 pub mod Outcomes

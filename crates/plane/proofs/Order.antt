@@ -195,6 +195,12 @@ unfolding up dn
 bits-up (pos n) h = (omega arith, omega arith)
 bits-up (negsuc n) h = (omega arith, omega arith)
 
+-- and such a number is one of 32 bits
+pub up-bits : (z : ℤ) → up z < dn z + 2 ^ 31 → dn z ≤ up z + 2 ^ 31 → mag z < 2 ^ 31
+unfolding up dn
+up-bits (pos n) g h = omega arith
+up-bits (negsuc n) g h = omega arith
+
 -- a number in range is at most 10^9 above 0 and at most 10^9 below
 pub range-up : (z : ℤ) → inRange z ≡ true → (up z ≤ dn z + 1_000_000_000) × (dn z ≤ up z + 1_000_000_000)
 unfolding inRange up dn

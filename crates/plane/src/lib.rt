@@ -4,6 +4,7 @@ ghost use mathlib.Core.Path.{_≡_};
 ghost use mathlib.Core.List.{[]};
 ghost use lib.ListN.{length};
 ghost use Rattle.plane.specs.Words.{origin, pointsOf, pointAt, rectSize, rectsOf, rectAt};
+ghost use Rattle.plane.specs.Keys.{raised, lowered, rowStep, keyOf, pointOf};
 
 // A point of the plane.
 pub struct Point {
@@ -35,6 +36,44 @@ pub const MOST_RECTS: usize = 16384;
 // How many numbers of an array a rectangle has.
 pub const RECT_SIZE: usize = 4;
 
+// ---- Keys: numbers that rise in the order of y, then x, and tell the point
+
+// From a key to the one of the next row.
+pub const ROW_STEP: u64 = 4_294_967_296;
+
+// How far a number is above the lowest of 32 bits. It is cut to 32 bits before it is widened, so that the compiler flips one bit.
+pub fn raise(z: i32) -> u64
+    ensures { λ r. ⌜ r ≡ raised z ⌝ }
+    ensures { λ r. ⌜ r < rowStep ⌝ }
+{
+    (((z as i64) + 2_147_483_648) as u32) as u64
+}
+
+// The number that is so far above the lowest.
+fn lower(n: u64) -> i32
+    requires { ⌜ n < rowStep ⌝ }
+    ensures { λ r. ⌜ r ≡ lowered n ⌝ }
+{
+    ((n as i64) - 2_147_483_648) as i32
+}
+
+// A point's key.
+pub fn key_of(p: Point) -> u64
+    ensures { λ r. ⌜ r ≡ keyOf p ⌝ }
+{
+    raise(p.y) * ROW_STEP + raise(p.x)
+}
+
+// The point of a key.
+pub fn point_of(k: u64) -> Point
+    ensures { λ r. ⌜ r ≡ pointOf k ⌝ }
+{
+    Point {
+        x: lower(k % ROW_STEP),
+        y: lower(k / ROW_STEP),
+    }
+}
+
 // ---- Points in an array
 
 fn point_there(a: &[i32], i: usize) -> Point
@@ -47,7 +86,8 @@ fn point_there(a: &[i32], i: usize) -> Point
     }
 }
 
-fn no_point() -> Point
+// The point (0, 0).
+pub fn origin() -> Point
     ensures { λ r. ⌜ r ≡ origin ⌝ }
 {
     Point { x: 0, y: 0 }
@@ -60,7 +100,7 @@ pub fn point_at(a: &[i32], i: usize) -> Point
     if i < a.len() / 2 {
         return point_there(a, i);
     }
-    no_point()
+    origin()
 }
 
 // ---- Rectangles in an array

@@ -18,6 +18,7 @@ use panbuckle::Rect;
 use panbuckle::forward;
 use plane::MOST_POINTS;
 use plane::RECT_SIZE;
+use plane::origin;
 use plane::point_at;
 use plane::rect_at;
 use reading::MOST_BYTES;
@@ -136,13 +137,7 @@ fn point_named(points: &[i32], number: u32, place: u64) -> Point
     if names_one(number) {
         return point_at(points, place as usize);
     }
-    none()
-}
-
-fn none() -> Point
-    ensures { λ r. ⌜ r ≡ origin ⌝ }
-{
-    Point { x: 0, y: 0 }
+    origin()
 }
 
 // Prints a refusal, and gives how many bytes it has.
@@ -201,7 +196,7 @@ fn list(points: &[i32], read: usize, out: &mut [u8]) -> Report
     let r = forward(points, &mut work, &mut rects);
     if r.answer == DONE {
         let n = print_list(out, r, &rects);
-        return reported(DONE, 0, none(), read, n);
+        return reported(DONE, 0, origin(), read, n);
     }
     let n = print_refusal(out, r.answer, r.place);
     reported(
@@ -224,7 +219,7 @@ pub fn answer(input: &[u8], out: &mut [u8]) -> Report
         return list(&points[..end], input.len(), out);
     }
     let n = print_refusal(out, r.answer, r.place);
-    reported(r.answer, r.place, none(), input.len(), n)
+    reported(r.answer, r.place, origin(), input.len(), n)
 }
 
 // ---- The sentence

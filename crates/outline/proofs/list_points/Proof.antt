@@ -18,20 +18,21 @@ use Rattle.rule.specs.Back.{backList}
 use Rattle.rule.specs.Answers.{written}
 use Rattle.rule.specs.Checks.{accepted}
 use Rattle.rule.proofs.Backward.{back-length}
-use Rattle.outline.specs.Inner.{endOfKeys, batchOf}
-use Rattle.outline.proofs.Batches.{batch-few, batch-none, answer-all, batch-are-keys, batch-listed, batch-written}
+use Rattle.outline.specs.Inner.{firstKey, endOfKeys, batchOf}
+use Rattle.outline.proofs.Batches.{batch-few, batch-none, answer-all, batch-listed, batch-written}
 use Rattle.outline.proofs.list_points.Statement.{statement}
 use Rattle.outline.proofs.list_points.Tie as tie
 
 -- the points with keys below the start are listed, and written if they are to be; the next batch may go on to the end
 record Listing (rs : List Rect) (keys₀ : List ℕ) (points₀ : List ℤ) (writes : Bool) (keys : List ℕ) (points : List ℤ) (start end listed : ℕ) : Type 0 where
+  pub from : firstKey ≤ start
   pub started : start ≤ endOfKeys
   pub asked : end ≤ endOfKeys
   pub ahead : start < endOfKeys → start < end
   pub keys-length : length keys ≡ length keys₀
   pub points-length : length points ≡ length points₀
-  pub many : listed ≡ length (batchOf 0 start (backList rs))
-  pub wrote : points ≡ cond writes (written accepted (flatPoints (batchOf 0 start (backList rs))) points₀) points₀
+  pub many : listed ≡ length (batchOf firstKey start (backList rs))
+  pub wrote : points ≡ cond writes (written accepted (flatPoints (batchOf firstKey start (backList rs))) points₀) points₀
 
 abbrev Inv-loop : tie.InvT-loop
 Inv-loop rects keys₀ points₀ writes start₀ end₀ listed₀ keys points start end listed = Listing (rectsOf rects) keys₀ points₀ writes keys points start end listed
@@ -43,8 +44,9 @@ loop-holds : tie.Need-loop-holds Inv-loop μ-loop
 unfolding flatPoints
 loop-holds c =
     let s = c .before .args in
-    let e = batch-none (backList (rectsOf (s .rects .now))) in
+    let e = batch-none firstKey (backList (rectsOf (s .rects .now))) in
     record {
+      from = omega arith;
       started = omega arith;
       asked = omega arith;
       ahead = λ h. omega arith;
@@ -68,14 +70,14 @@ abbrev answer : tie.After-gather Inv-loop μ-loop → List Point
 answer g = backList (rectsOf (loop-of g .before .before .args .rects .now))
 
 -- with the batch, the points below its end are listed
-listed-on : (g : tie.After-gather Inv-loop μ-loop) → let b = g .gather .result in loop-of g .loop .listed + b .count ≡ length (batchOf 0 (b .end) (answer g))
+listed-on : (g : tie.After-gather Inv-loop μ-loop) → let b = g .gather .result in loop-of g .loop .listed + b .count ≡ length (batchOf firstKey (b .end) (answer g))
 listed-on g =
     let l = loop-of g in
-    batch-listed (l .before .before .pre .0) (g .gather .ensures) (length-take-le (g .gather .result .count) (g .gather .last .1 .0) (omega arith)) (l .loop .inv .many)
+    batch-listed (l .before .before .pre .0) (l .loop .inv .from) (g .gather .ensures) (length-take-le (g .gather .result .count) (g .gather .last .1 .0) (omega arith)) (l .loop .inv .many)
 
 -- they are no more than the answer's
 listed-most : (g : tie.After-gather Inv-loop μ-loop) → loop-of g .loop .listed + g .gather .result .count ≤ length (answer g)
-listed-most g = omega (arith, listed-on g, batch-few 0 (g .gather .result .end) (answer g))
+listed-most g = omega (arith, listed-on g, batch-few firstKey (g .gather .result .end) (answer g))
 
 -- and have room, if they are to be written
 has-room : (c : tie.Then1 Inv-loop μ-loop) → let g = c .before .before .before in 2 * (loop-of g .loop .listed + g .gather .result .count) ≤ length (loop-of g .loop .points)
@@ -86,10 +88,8 @@ has-room c =
 
 put-points-requires : tie.Need-put-points-requires Inv-loop μ-loop
 put-points-requires c κs =
-    let g = c .before .before .before .before .before in
-    let l = loop-of g in
     let h = has-room (c .before .before) in
-    (search needs, simp (length-take, length-drop) (omega arith), batch-are-keys (l .before .before .pre .0) (g .gather .ensures))
+    (search needs, simp (length-take, length-drop) (omega arith))
 
 add-listed : tie.Need-add-listed Inv-loop μ-loop
 add-listed c =
@@ -98,14 +98,14 @@ add-listed c =
     omega (arith, listed-most g, back-length (rectsOf rects), length-rects rects)
 
 -- the points of the batch are written after those before, if they are to be
-written-on : (c : tie.Joined1 Inv-loop μ-loop) → let g = c .before .before .before in let s = loop-of g .before .before .args in (length (c .if1 .points) ≡ length (s .points .now)) × (c .if1 .points ≡ cond (s .writes) (written accepted (flatPoints (batchOf 0 (g .gather .result .end) (answer g))) (s .points .now)) (s .points .now))
+written-on : (c : tie.Joined1 Inv-loop μ-loop) → let g = c .before .before .before in let s = loop-of g .before .before .args in (length (c .if1 .points) ≡ length (s .points .now)) × (c .if1 .points ≡ cond (s .writes) (written accepted (flatPoints (batchOf firstKey (g .gather .result .end) (answer g))) (s .points .now)) (s .points .now))
 written-on c =
     let g = c .before .before .before in
     let l = loop-of g in
     let s = l .before .before in
     let i = l .loop .inv in
     ⊎-elim
-    (λ w. rw (w .5) (rw (← i .points-length) (w .4 .given .1), batch-written (s .pre .0) (g .gather .ensures) (s .args .points .now) (i .many) (i .wrote ∙ cond-true _ _ _ (w .0 .taken)) (w .3 .ensures) ∙ sym (cond-true _ _ _ (w .0 .taken))))
+    (λ w. rw (w .5) (rw (← i .points-length) (w .4 .given .1), batch-written (s .pre .0) (i .from) (g .gather .ensures) (s .args .points .now) (i .many) (i .wrote ∙ cond-true _ _ _ (w .0 .taken)) (w .3 .ensures) ∙ sym (cond-true _ _ _ (w .0 .taken))))
     (λ w. rw (w .1) (i .points-length, i .wrote ∙ cond-false _ _ _ (w .0 .left) ∙ sym (cond-false _ _ _ (w .0 .left))))
     (c .if1 .came)
 
@@ -114,6 +114,7 @@ loop-again c =
     let g = c .before .before .before .before in
     let w = written-on (c .before) in
     record {
+      from = omega (arith, loop-of g .loop .inv .from, g .gather .ensures .beyond);
       started = search needs;
       asked = search needs;
       ahead = c .next-end .ensures .1;

@@ -1,5 +1,5 @@
 -- `outline::next_end` meets its contract.
-use Prim.Native.Nat.{_-_}
+use Prim.Native.Nat.{_+_, _-_, _≤_}
 use native.Mathlib.Omega.{arith}
 use lib.Dec.{ltb}
 use borrow.Author.Needs.{needs}
@@ -10,11 +10,13 @@ use Rattle.outline.proofs.next_end.Statement.{statement}
 use Rattle.outline.proofs.next_end.Tie as tie
 
 -- the test found room for the width
-returns-2 : tie.Need-returns-2
-returns-2 c =
-    let s = c .before .before .before .before .before .args in
-    let h = or-parts (ltb (s .b .count) 384) (ltb (endOfKeys - s .b .end) (s .b .end - s .start)) (c .before .if1 .left) in
-    (omega (arith, ltb-false), λ l. omega arith)
+room : (c : tie.Else1) → let s = c .before .before .before .before .args in s .b .end + (s .b .end - s .start) ≤ endOfKeys
+room c =
+    let s = c .before .before .before .before .args in
+    let h = or-parts (ltb (s .b .count) 384) (ltb (endOfKeys - s .b .end) (s .b .end - s .start)) (c .if1 .left) in
+    omega (arith, ltb-false)
 
 pub next-end-spec : {M : Type 1} → statement M
-next-end-spec = tie.close (tie.spec (λ c. search needs) (λ c. search needs) (λ c. search needs) (λ c. search needs) returns-2)
+next-end-spec =
+    tie.close
+    (tie.spec (λ c. search needs) (λ c. search needs) (λ c. search needs) (λ c. omega (arith, room (c .before))) (λ c. (omega (arith, room (c .before)), λ l. omega arith)))

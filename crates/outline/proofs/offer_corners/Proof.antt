@@ -4,8 +4,9 @@ use native.Mathlib.Omega.{arith}
 use mathlib.Core.Path.{ap, sym, _∙_}
 use lib.ListN.{length}
 use borrow.Author.Needs.{needs}
+use Rattle.plane.specs.Keys.{keyOf}
 use Rattle.plane.proofs.Bools.{and-parts}
-use Rattle.outline.specs.Inner.{mostKeys, keyOf}
+use Rattle.outline.specs.Inner.{mostKeys}
 use Rattle.outline.proofs.Gathering.{corner-in-range, CornerKeys, corner-keys, takes-corners, corners-missed}
 use Rattle.outline.proofs.offer_corners.Statement.{statement}
 use Rattle.outline.proofs.offer_corners.Tie as tie

@@ -3,27 +3,21 @@ use Prim.Native.Nat.{ℕ, zero, suc, _+_, _*_, _-_, _<_, _≤_}
 use native.Mathlib.Numerals.{add-one}
 use native.Mathlib.Omega.{arith}
 use mathlib.Core.Path.{_≡_, refl, ap}
-use mathlib.Core.Bool.{true}
 use mathlib.Core.List.{List, [], _∷_, _++_}
 use lib.ListN.{length, getD, take, set, length-set}
-use lib.Seq.{getD-take, length-take-le}
 use lib.IntN.{ℤ}
 use borrow.Author.Needs.{needs}
 use Rattle.plane.specs.declared.Point.{Point}
 use Rattle.plane.specs.Words.{flatPoints}
+use Rattle.plane.specs.Keys.{pointOf}
 use Rattle.plane.proofs.Arrays.{flat-append, length-flat-points}
-use Rattle.plane.proofs.Places.{in-at}
 use Rattle.plane.proofs.Bits.{back}
 use Rattle.rule.specs.Answers.{written}
 use Rattle.rule.specs.Checks.{accepted}
 use Rattle.rule.proofs.Memory.{written-more}
-use Rattle.outline.specs.Inner.{pointOf, pointsAt, isKey, AreKeys}
+use Rattle.outline.specs.Inner.{pointsAt}
 use Rattle.outline.proofs.put_points.Statement.{statement}
 use Rattle.outline.proofs.put_points.Tie as tie
-
--- of n keys, that at place i is one
-key-at : (ks : List ℕ) (n i : ℕ) → n ≤ length ks → i < n → AreKeys (take n ks) → isKey (getD ks i 0) ≡ true
-key-at ks n i h few are = rw (getD-take n ks i 0 few) at (are .each-is (getD (take n ks) i 0) (in-at (take n ks) i 0 (omega (arith, length-take-le n ks h))))
 
 -- the first i keys have i points
 length-first : (ks : List ℕ) (i : ℕ) → i ≤ length ks → length (pointsAt (take i ks)) ≡ i
@@ -57,12 +51,6 @@ loop-holds : tie.Need-loop-holds Inv-loop μ-loop
 unfolding flatPoints pointsAt
 loop-holds c = (search needs, refl, refl)
 
-point-of-requires : tie.Need-point-of-requires Inv-loop μ-loop
-point-of-requires c κs =
-    let l = c .before .before in
-    let s = l .before .before in
-    key-at (s .args .keys .now) (s .args .n) (l .loop .i) (s .pre .0) (omega arith) (s .pre .2)
-
 loop-again : tie.Need-loop-again Inv-loop μ-loop
 loop-again c =
     let t = c .before .before in
@@ -86,7 +74,7 @@ put-points-spec =
     loop-holds
     (λ c. search needs)
     (λ c. search needs)
-    point-of-requires
+    (λ c κs. search needs)
     (λ c. search needs)
     (λ c. search needs)
     (λ c. search needs)

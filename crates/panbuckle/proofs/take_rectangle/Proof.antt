@@ -15,7 +15,7 @@ begun c =
     let s = z .before .before in
     record {
       ready = s .pre;
-      is-k = rw (z .zero .ensures) at (k .first-of .ensures);
+      is-k = rw (z .origin .ensures) at (k .first-of .ensures);
       is-l = c .first-of2 .ensures;
     }
 

@@ -26,8 +26,8 @@ returns c =
     let t = q .before .before in
     let g = t .before in
     let s = g .before .before in
-    let e = toggle-present (s .args .n) (s .args .a .now) (s .args .p) (s .pre .0) (g .place-of .result) (g .place-of .ensures) (t .if1 .taken) (q .point-at .ensures) (z .zero .ensures) in
-    (e .0, c .before .put-point2 .ensures ∙ ap (λ (b : List ℤ). put b (s .args .n - 1) (z .zero .result)) (w .put-point .ensures) ∙ e .1)
+    let e = toggle-present (s .args .n) (s .args .a .now) (s .args .p) (s .pre .0) (g .place-of .result) (g .place-of .ensures) (t .if1 .taken) (q .point-at .ensures) (z .origin .ensures) in
+    (e .0, c .before .put-point2 .ensures ∙ ap (λ (b : List ℤ). put b (s .args .n - 1) (z .origin .result)) (w .put-point .ensures) ∙ e .1)
 
 returns-2 : tie.Need-returns-2
 returns-2 c =

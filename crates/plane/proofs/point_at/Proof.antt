@@ -9,7 +9,7 @@ use Rattle.plane.proofs.point_at.Statement.{statement}
 use Rattle.plane.proofs.point_at.Tie as tie
 
 returns-2 : tie.Need-returns-2
-returns-2 c = let a = c .before .before .args .a .now in c .no-point .ensures ∙ sym (List·getD-eq-default (pointsOf a) origin (omega (arith, length-points a)))
+returns-2 c = let a = c .before .before .args .a .now in c .origin .ensures ∙ sym (List·getD-eq-default (pointsOf a) origin (omega (arith, length-points a)))
 
 pub point-at-spec : {M : Type 1} → statement M
 point-at-spec = tie.close (tie.spec (λ c κs. search needs) (λ c. search needs) (λ c κs. search needs) returns-2)

@@ -35,7 +35,7 @@ returns c =
 returns-2 : tie.Need-returns-2
 returns-2 c =
     let p = c .before .before .before .before in
-    program-told (refuses (p .before .before)) (rw (c .before .none .ensures, p .print-refusal .ensures .0) at (c .reported .ensures)) (p .print-refusal .ensures .1)
+    program-told (refuses (p .before .before)) (rw (c .before .origin .ensures, p .print-refusal .ensures .0) at (c .reported .ensures)) (p .print-refusal .ensures .1)
 
 pub answer-spec : {M : Type 1} → statement M
 answer-spec =

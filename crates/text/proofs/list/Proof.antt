@@ -44,7 +44,7 @@ returns : tie.Need-returns
 returns c =
     let p = c .before .before .before .before in
     let t = p .before .before .before in
-    record { report = rw (accepts t) (rw (c .before .none .ensures, p .print-list .ensures .0, lines t) at (c .reported .ensures)); output = rw (accepts t) (rw (lines t) at (p .print-list .ensures .1)) }
+    record { report = rw (accepts t) (rw (c .before .origin .ensures, p .print-list .ensures .0, lines t) at (c .reported .ensures)); output = rw (accepts t) (rw (lines t) at (p .print-list .ensures .1)) }
 
 returns-2 : tie.Need-returns-2
 returns-2 c =

@@ -12,7 +12,7 @@ returns c = let b = c .before in c .point-at .ensures ∙ sym (cond-true (namesO
 
 returns-2 : tie.Need-returns-2
 unfolding offender
-returns-2 c = let b = c .before in c .none .ensures ∙ sym (cond-false (namesOne (b .before .before .args .number)) _ _ (sym (b .before .names-one .ensures) ∙ b .if1 .left))
+returns-2 c = let b = c .before in c .origin .ensures ∙ sym (cond-false (namesOne (b .before .before .args .number)) _ _ (sym (b .before .names-one .ensures) ∙ b .if1 .left))
 
 pub point-named-spec : {M : Type 1} → statement M
 point-named-spec = tie.close (tie.spec (λ c κs. search needs) (λ c κs. search needs) returns (λ c κs. search needs) returns-2)

@@ -18,7 +18,7 @@ use Rattle.plane.proofs.Places.{stretch-none}
 use Rattle.rule.specs.Rule.{ruleList}
 use Rattle.rule.specs.Table.{Accepted, accepted, ForwardAccepted}
 use Rattle.rule.specs.Answers.{written}
-use Rattle.checks.specs.Screens.{rowOrder}
+use Rattle.ordering.specs.Orders.{rowOrder}
 use Rattle.live.specs.Stands.{rectNo}
 use Rattle.live.proofs.Moves.{starts}
 use Rattle.live.proofs.Numbered.{list-at, rect-no-solid}

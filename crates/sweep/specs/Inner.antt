@@ -16,7 +16,7 @@ use Rattle.rule.specs.declared.ForwardAnswer.{ForwardAnswer}
 use Rattle.rule.specs.Rule.{ruleList}
 use Rattle.rule.specs.Table.{Check, LENGTH, MANY, WORK, pointAt, rectAt, pointChecks, Accepted, accepted, verdict}
 use Rattle.rule.specs.Answers.{forwardSays, written}
-use Rattle.checks.specs.Screens.{rowOrder}
+use Rattle.ordering.specs.Orders.{rowOrder}
 use Rattle.live.specs.declared.Live.{Live}
 use Rattle.live.specs.Stands.{far, number, rectNo, stand, nextOn, Stand, Sweeping}
 use Rattle.sweep.specs.declared.Sweep.{Sweep}

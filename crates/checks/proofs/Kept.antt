@@ -1,4 +1,4 @@
--- Of whatever meets the contract of check_points, and of order_points with its checks: each refusal comes exactly when its rule says so, and
+-- Of whatever meets the contract of check_points or of order_points: each refusal comes exactly when its rule says so, and
 -- nothing is refused exactly when the points are accepted.
 use mathlib.Core.Path.{_≡_, refl}
 use mathlib.Core.Logic.{_↔_, Iff·trans}

@@ -1,8 +1,5 @@
 pub mod Screens
-pub mod Raised
 pub mod Neighbours
+pub mod Clear
 pub mod Outcomes
 pub mod Kept
-pub mod Keys
-pub mod Settling
-pub mod Orders

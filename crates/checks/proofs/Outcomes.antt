@@ -2,17 +2,18 @@
 use mathlib.Core.Path.{_≡_, sym, _∙_}
 use Prim.Native.Nat.{ℕ}
 use mathlib.Core.List.{List}
+use lib.ListN.{take}
 use lib.IntN.{ℤ}
 use Rattle.plane.specs.Words.{pointsOf}
-use Rattle.rule.specs.Rows.{pointChecks}
-use Rattle.rule.specs.Checks.{verdict}
+use Rattle.rule.specs.Table.{pointChecks, verdict}
+use Rattle.ordering.specs.Orders.{mostPoints, rowOrder, placed}
 use Rattle.checks.specs.declared.Screen.{Screen}
-use Rattle.checks.specs.Screens.{screenOf, orderChecks, orderLeft}
+use Rattle.checks.specs.Screens.{screenOf}
 
 -- two outcomes of check_points on the same array are equal
 pub check-points-one-outcome : (a : List ℤ) {r s : Screen} → r ≡ screenOf (verdict (pointChecks (pointsOf a))) → s ≡ screenOf (verdict (pointChecks (pointsOf a))) → r ≡ s
 check-points-one-outcome a d e = d ∙ sym e
 
 -- two outcomes of order_points on the same arrays are equal
-pub order-points-one-outcome : (a : List ℤ) (order : List ℕ) {r s : Screen} {b c : List ℕ} → r ≡ screenOf (verdict (orderChecks (pointsOf a))) → b ≡ orderLeft (verdict (orderChecks (pointsOf a))) (pointsOf a) order → s ≡ screenOf (verdict (orderChecks (pointsOf a))) → c ≡ orderLeft (verdict (orderChecks (pointsOf a))) (pointsOf a) order → (r ≡ s) × (b ≡ c)
+pub order-points-one-outcome : (a : List ℤ) (order : List ℕ) {r s : Screen} {b c : List ℕ} → r ≡ screenOf (verdict (pointChecks (pointsOf a))) → b ≡ placed (rowOrder (take mostPoints (pointsOf a))) order → s ≡ screenOf (verdict (pointChecks (pointsOf a))) → c ≡ placed (rowOrder (take mostPoints (pointsOf a))) order → (r ≡ s) × (b ≡ c)
 order-points-one-outcome a order d e f g = (d ∙ sym f, e ∙ sym g)

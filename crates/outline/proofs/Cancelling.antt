@@ -9,13 +9,13 @@ use mathlib.Core.List.{List, [], _∷_, _++_, List·Memᴰ as In, List·Memᴰ·
 use mathlib.Core.List.{List·Memᴰ·append-cases as append-cases, List·Memᴰ·eq-of-singleton as eq-of-singleton, Memᴰ·append-left as append-left}
 use lib.ListN.{length, getD, take, set}
 use lib.Seq.{slice, slice-cons, take-suc-set, take-set-lt, drop-set-lt}
-use borrow.Author.Tests.{eqb-true}
+use borrow.Author.Tests.{eqb-true, ltb-false}
 use Rattle.plane.specs.Lists.{odd}
 use Rattle.plane.proofs.Bools.{xor-false, false-xor, xor-assoc, xor-back}
 use Rattle.plane.proofs.Parity.{odd-none-of, odd-cons, odd-last-added}
 use Rattle.plane.proofs.Places.{take-last}
 use Rattle.sorting.specs.Sorted.{sorted}
-use Rattle.sorting.proofs.Sorted.{sorted-first}
+use Rattle.sorting.proofs.Sorted.{least-first, sorted-first}
 use Rattle.outline.specs.Inner.{endsWith, climbs, OddOnes}
 use Rattle.outline.proofs.Climbs.{ends-with-last, ends-with-some, climbs-start, climbs-end}
 
@@ -41,7 +41,7 @@ cancels-both : {all kept rest : List ℕ} {k : ℕ} → Cancels all (kept ++ (k 
 cancels-both {kept = kept} {rest} {k} c =
     record {
       climbing = climbs-start kept (k ∷ []) (c .climbing);
-      in-order = sorted-first k rest (c .in-order) .0;
+      in-order = sorted-first least-first k rest (c .in-order) .0;
       not-below = λ i j m n. c .not-below i j (append-left (k ∷ []) m) (tail n);
       parity = λ f. simp (odd-last-added, odd-cons, xor-assoc, xor-back) at (c .parity f);
     }
@@ -49,11 +49,11 @@ cancels-both {kept = kept} {rest} {k} c =
 -- one is read that does not: it is kept
 cancels-one : {all kept rest : List ℕ} {k : ℕ} → Cancels all kept (k ∷ rest) → endsWith kept k ≡ false → Cancels all (kept ++ (k ∷ [])) rest
 cancels-one {kept = kept} {rest} {k} c d =
-    let h = sorted-first k rest (c .in-order) in
+    let h = sorted-first least-first k rest (c .in-order) in
     record {
       climbing = climbs-end kept k (c .climbing) (λ m n. c .not-below m k n (head refl)) d;
       in-order = h .0;
-      not-below = λ i j m n. ⊎-elim (λ a. c .not-below i j a (tail n)) (λ a. rw (eq-of-singleton {a = i} {b = k} a) (h .1 j n)) (append-cases kept m);
+      not-below = λ i j m n. ⊎-elim (λ a. c .not-below i j a (tail n)) (λ a. rw (eq-of-singleton {a = i} {b = k} a) (ltb-false j k (h .1 j n))) (append-cases kept m);
       parity = λ f. simp (odd-last-added, xor-assoc) (rw odd-cons at (c .parity f));
     }
 

@@ -7,7 +7,7 @@ use lib.ListN.{take}
 use lib.Seq.{take-at, length-take-le}
 use borrow.Author.Needs.{needs}
 use Rattle.sorting.specs.Sorted.{sorted}
-use Rattle.sorting.proofs.Sorted.{sorted-parity, sorted-length, sorted-twice}
+use Rattle.sorting.proofs.Sorted.{least-first, sorted-parity, sorted-length, sorted-twice}
 use Rattle.outline.proofs.odd_ones.Statement.{statement}
 use Rattle.outline.proofs.odd_ones.Tie as tie
 
@@ -18,13 +18,13 @@ start-sorted c post =
     let n : ℕ = s .args .n in
     let keys : List ℕ = s .args .keys .now in
     let e : c .sort .last .0 ≡ sorted (take n keys) = rw sub-zero at (c .sort .ensures) in
-    rw e (take-at (sorted (take n keys)) post n (sorted-length (take n keys) ∙ length-take-le n keys (s .pre)))
+    rw e (take-at (sorted (take n keys)) post n (sorted-length least-first (take n keys) ∙ length-take-le n keys (s .pre)))
 
 cancel-pairs-requires : tie.Need-cancel-pairs-requires
 cancel-pairs-requires c κs =
     let t = c .before .before .before in
     let r = t .before .before .before .args in
-    (search needs, rw (start-sorted t _) (sorted-twice (take (r .n) (r .keys .now))))
+    (search needs, rw (start-sorted t _) (sorted-twice least-first (take (r .n) (r .keys .now))))
 
 returns : tie.Need-returns
 returns c =
@@ -32,7 +32,7 @@ returns c =
     let t = g .before .before .before .before in
     let r = t .before .before .before .args in
     let h = rw (start-sorted t _) at (g .cancel-pairs .ensures .1) in
-    (g .cancel-pairs .ensures .0, record { climbing = h .climbing; parity = λ f. h .parity f ∙ sorted-parity f (take (r .n) (r .keys .now)) })
+    (g .cancel-pairs .ensures .0, record { climbing = h .climbing; parity = λ f. h .parity f ∙ sorted-parity least-first f (take (r .n) (r .keys .now)) })
 
 pub odd-ones-spec : {M : Type 1} → statement M
 odd-ones-spec = tie.close (tie.spec (λ c. search needs) (λ c. search needs) (λ c. search needs) (λ c κs. search needs) cancel-pairs-requires (λ c. search needs) returns)

@@ -1,38 +1,26 @@
 -- `sweep::check_input` meets its contract: each check refuses, or passes to the next.
-use Prim.Native.Nat.{ℕ, _/_, _≤_}
+use Prim.Native.Nat.{ℕ, _/_}
 use native.Mathlib.Omega.{arith}
-use mathlib.Core.Path.{_≡_, refl, sym, ap, _∙_}
+use mathlib.Core.Path.{_≡_, sym, ap, _∙_}
+use mathlib.Core.Bool.{false}
 use mathlib.Core.List.{List}
-use lib.ListN.{length, take, drop}
-use lib.Seq.{take-at}
+use lib.ListN.{length}
 use lib.IntN.{ℤ}
 use borrow.Author.Needs.{needs}
 use borrow.Author.Tests.{lt-ltb, le-ltb, eq-eqb, ne-eqb}
 use Rattle.plane.specs.Words.{pointsOf}
 use Rattle.plane.proofs.Arrays.{length-points}
-use Rattle.rule.specs.Checks.{accepted, refused, verdict}
+use Rattle.rule.specs.Table.{pointChecks, refused, verdict}
 use Rattle.rule.proofs.Verdicts.{verdict-whole}
-use Rattle.rule.proofs.Refusals.{accepted-points}
-use Rattle.checks.specs.Screens.{screenOf, orderChecks, rowOrder, orderLeft}
-use Rattle.checks.proofs.Screens.{order-few}
+use Rattle.ordering.proofs.Orders.{order-found}
+use Rattle.checks.specs.Screens.{screenOf}
 use Rattle.sweep.specs.Inner.{inputChecks, Ordered}
-use Rattle.sweep.proofs.Places.{order-places}
 use Rattle.sweep.proofs.check_input.Statement.{statement}
 use Rattle.sweep.proofs.check_input.Tie as tie
 
 -- where the points are refused, no order is asked for
 none-asked : (a : List ℤ) (work : ℕ) (order : List ℕ) {k p : ℕ} → verdict (inputChecks a work) ≡ refused k p → Ordered a work order
 none-asked a work order v = record { in-order = λ e. cc }
-
--- what `order_points` leaves begins with the places of accepted points in order
-order-asked : (a : List ℤ) (work : ℕ) (order : List ℕ) → length a / 2 ≤ 4096 → verdict (inputChecks a work) ≡ verdict (orderChecks (pointsOf a)) → Ordered a work (orderLeft (verdict (orderChecks (pointsOf a))) (pointsOf a) order)
-order-asked a work order few v = record { in-order = λ e. begins (sym v ∙ e) }
-  where
-    begins : verdict (orderChecks (pointsOf a)) ≡ accepted → take (length a / 2) (orderLeft (verdict (orderChecks (pointsOf a))) (pointsOf a) order) ≡ rowOrder (pointsOf a)
-    begins e =
-        let ps = pointsOf a in
-        let ok = accepted-points ps .0 (sym (order-few ps (omega (arith, length-points a))) ∙ e) in
-        rw e (take-at (rowOrder ps) (drop (length ps) order) (length a / 2) (order-places a ok refl))
 
 returns : tie.Need-returns
 unfolding inputChecks
@@ -63,8 +51,8 @@ returns-4 c =
     let l = c .before .before in
     let s = l .before .before .before .args in
     let a = s .points .now in
-    let v : verdict (inputChecks a (s .work)) ≡ verdict (orderChecks (pointsOf a)) = simp (verdict-whole, eq-eqb _ _ (l .before .before .if1 .left), le-ltb _ _ (l .before .if2 .left), le-ltb _ _ (l .if3 .left)) (sym (order-few (pointsOf a) (omega (arith, length-points a)))) in
-    (c .order-points .ensures .0 ∙ sym (ap screenOf v), rw (c .order-points .ensures .1) (order-asked a (s .work) _ (omega arith) v))
+    let v : verdict (inputChecks a (s .work)) ≡ verdict (pointChecks (pointsOf a)) = simp (verdict-whole, eq-eqb _ _ (l .before .before .if1 .left), le-ltb _ _ (l .before .if2 .left), le-ltb _ _ (l .if3 .left)) in
+    (c .order-points .ensures .0 ∙ sym (ap screenOf v), record { in-order = λ _. rw (c .order-points .ensures .1) (order-found false (pointsOf a) (length a / 2) _ (sym (length-points a)) (omega arith)) })
 
 pub check-input-spec : {M : Type 1} → statement M
 check-input-spec = tie.close (tie.spec (λ c κs. search needs) returns (λ c κs. search needs) returns-2 (λ c. search needs) (λ c κs. search needs) returns-3 (λ c κs. search needs) returns-4)

@@ -4,9 +4,10 @@ use Prim.Native.Nat.{ℕ}
 use mathlib.Core.List.{List}
 use lib.ListN.{take}
 use lib.IntN.{ℤ}
-use Rattle.plane.specs.Words.{pointsOf}
-use Rattle.rule.specs.Table.{pointChecks, verdict}
-use Rattle.ordering.specs.Orders.{mostPoints, rowOrder, placed}
+use Rattle.plane.specs.Words.{pointsOf, mostPoints}
+use Rattle.ordering.specs.Orders.{rowOrder, placed}
+use Rattle.rule.specs.Rows.{pointChecks}
+use Rattle.rule.specs.Checks.{verdict}
 use Rattle.checks.specs.declared.Screen.{Screen}
 use Rattle.checks.specs.Screens.{screenOf}
 

@@ -1,7 +1,7 @@
 -- A screen, read back as the verdict that it is of.
 use Prim.Native.Nat.{ℕ}
 use mathlib.Core.Path.{_≡_, refl}
-use Rattle.rule.specs.Table.{Verdict, accepted, refused}
+use Rattle.rule.specs.Checks.{Verdict, accepted, refused}
 use Rattle.checks.specs.declared.Screen.the-variants.{Clear, Refused}
 use Rattle.checks.specs.Screens.{screenOf}
 

@@ -1,6 +1,6 @@
 -- What `check_points` and `order_points` give: a verdict of the table's checks, as the code has it.
 use Prim.Native.Nat.{ℕ}
-use Rattle.rule.specs.Table.{Verdict, accepted, refused}
+use Rattle.rule.specs.Checks.{Verdict, accepted, refused}
 use Rattle.checks.specs.declared.Screen.{Screen}
 use Rattle.checks.specs.declared.Screen.the-variants.{Clear, Refused}
 

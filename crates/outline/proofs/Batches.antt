@@ -28,7 +28,7 @@ use Rattle.rule.specs.Rows.{AcceptedRects}
 use Rattle.rule.proofs.Backward.{back-rising, back-alike, back-accepted}
 use Rattle.rule.proofs.Memory.{written-part}
 use Rattle.outline.specs.declared.Batch.{Batch}
-use Rattle.outline.specs.Inner.{firstKey, endOfKeys, keysOf, pointsAt, climbsAfter, climbs, OddOnes, mostKeys, within, Gathers, batchOf, IsBatch}
+use Rattle.outline.specs.Inner.{firstKey, endOfKeys, keysOf, pointsOfKeys, climbsAfter, climbs, OddOnes, mostKeys, within, Gathers, batchOf, IsBatch}
 use Rattle.outline.proofs.Keys.{key-within, length-keys, keys-append, odd-keys, keys-points}
 use Rattle.outline.proofs.Climbs.{climbs-unique}
 
@@ -160,7 +160,7 @@ module _ {rs : List Rect} (acc : AcceptedRects rs) where
         omega (arith, length-append (batchOf firstKey start (backList rs)) batch, ap length batch-joins, ap length (t .keys), length-keys batch)
 
     -- its points, written into the part after those before, are written after them
-    pub batch-written : (out : List ℤ) {listed : ℕ} {points part : List ℤ} → listed ≡ length (batchOf firstKey start (backList rs)) → points ≡ written accepted (flatPoints (batchOf firstKey start (backList rs))) out → let n = length points - 2 * listed in part ≡ written accepted (flatPoints (pointsAt ks)) (take n (drop (2 * listed) points)) → take (2 * listed) points ++ (part ++ drop n (drop (2 * listed) points)) ≡ written accepted (flatPoints (batchOf firstKey (b .end) (backList rs))) out
+    pub batch-written : (out : List ℤ) {listed : ℕ} {points part : List ℤ} → listed ≡ length (batchOf firstKey start (backList rs)) → points ≡ written accepted (flatPoints (batchOf firstKey start (backList rs))) out → let n = length points - 2 * listed in part ≡ written accepted (flatPoints (pointsOfKeys ks)) (take n (drop (2 * listed) points)) → take (2 * listed) points ++ (part ++ drop n (drop (2 * listed) points)) ≡ written accepted (flatPoints (batchOf firstKey (b .end) (backList rs))) out
     batch-written out {listed} e w p =
         let before : List Point = batchOf firstKey start (backList rs) in
         let batch : List Point = batchOf start (b .end) (backList rs) in

@@ -12,7 +12,7 @@ use Rattle.plane.specs.Keys.{keyOf}
 use Rattle.plane.proofs.Bools.{and-parts}
 use Rattle.plane.proofs.Order.{range-up}
 use Rattle.plane.proofs.Keys.{range-fits, point-raised, key-point}
-use Rattle.outline.specs.Inner.{firstKey, endOfKeys, keysOf, pointsAt}
+use Rattle.outline.specs.Inner.{firstKey, endOfKeys, keysOf, pointsOfKeys}
 
 -- ---- One point
 
@@ -46,7 +46,7 @@ odd-keys f [] = refl
 odd-keys f (p ∷ ps) = ap (xor (f (keyOf p))) (odd-keys f ps)
 
 -- the points of the keys of points in range are these
-pub keys-points : (ps : List Point) → ((q : Point) → In q ps → pointInRange q ≡ true) → pointsAt (keysOf ps) ≡ ps
-unfolding keysOf pointsAt
+pub keys-points : (ps : List Point) → ((q : Point) → In q ps → pointInRange q ≡ true) → pointsOfKeys (keysOf ps) ≡ ps
+unfolding keysOf pointsOfKeys
 keys-points [] range = refl
 keys-points (p ∷ ps) range = rw (key-point p (range-fits p (range p (head refl))), keys-points ps (λ q n. range q (tail n)))

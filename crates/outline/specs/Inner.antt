@@ -44,9 +44,9 @@ keysOf [] = []
 keysOf (p ∷ ps) = keyOf p ∷ keysOf ps
 
 -- the points of keys
-unfoldable pub pointsAt : List ℕ → List Point
-pointsAt [] = []
-pointsAt (k ∷ ks) = pointOf k ∷ pointsAt ks
+unfoldable pub pointsOfKeys : List ℕ → List Point
+pointsOfKeys [] = []
+pointsOfKeys (k ∷ ks) = pointOf k ∷ pointsOfKeys ks
 
 -- a rectangle's corner, at its right or its left, at its top or its bottom
 abbrev pub cornerAt : Rect → (at-right at-top : Bool) → Point

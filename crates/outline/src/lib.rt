@@ -15,7 +15,7 @@ ghost use Rattle.rule.specs.Back.{backList};
 ghost use Rattle.rule.specs.Answers.{written, BackwardAccepted, BackwardDone};
 ghost use Rattle.rule.specs.Checks.{accepted, placeGiven};
 ghost use Rattle.rule.specs.Rows.{AcceptedRects};
-ghost use Rattle.outline.specs.Inner.{spansRange, rectOffends, rectCheck, keysOf, pointsAt, endOfKeys, cornerAt, misses, endsWith, OddOnes, mostKeys, Takes, RoomMade, IsBatch};
+ghost use Rattle.outline.specs.Inner.{spansRange, rectOffends, rectCheck, keysOf, pointsOfKeys, endOfKeys, cornerAt, misses, endsWith, OddOnes, mostKeys, Takes, RoomMade, IsBatch};
 use plane::HIGH_END;
 use plane::LOW_END;
 use plane::MOST_RECTS;
@@ -246,7 +246,7 @@ fn gather(rects: &[i32], keys: &mut [u64], start: u64, end: u64) -> Batch
 // Writes the points of the first n keys.
 fn put_points(keys: &[u64], n: usize, points: &mut [i32])
     requires { ⌜ (n ≤ length (now keys)) × (2 * n ≤ length (now points)) ⌝ }
-    ensures { λ r. ⌜ now (points .exit) ≡ written accepted (flatPoints (pointsAt (take n (now (keys .entry))))) (now (points .entry)) ⌝ }
+    ensures { λ r. ⌜ now (points .exit) ≡ written accepted (flatPoints (pointsOfKeys (take n (now (keys .entry))))) (now (points .entry)) ⌝ }
 {
     let mut i = 0;
     while i < n {

@@ -16,9 +16,10 @@ use Rattle.plane.proofs.Bools.{clash}
 use Rattle.plane.proofs.Sums.{sum-length, count-sum, count-find, below-grows, below-has, below-list}
 use Rattle.plane.proofs.Places.{stretch-none}
 use Rattle.rule.specs.Rule.{ruleList}
-use Rattle.rule.specs.Table.{Accepted, accepted, ForwardAccepted}
-use Rattle.rule.specs.Answers.{written}
+use Rattle.rule.specs.Answers.{written, ForwardAccepted}
 use Rattle.ordering.specs.Orders.{rowOrder}
+use Rattle.rule.specs.Rows.{Accepted}
+use Rattle.rule.specs.Checks.{accepted}
 use Rattle.live.specs.Stands.{rectNo}
 use Rattle.live.proofs.Moves.{starts}
 use Rattle.live.proofs.Numbered.{list-at, rect-no-solid}

@@ -19,9 +19,9 @@ use Rattle.plane.proofs.Order.{eqZ-is, eqZ-refl}
 use Rattle.plane.proofs.Maps.{map-at}
 use Rattle.plane.proofs.Arrays.{length-points}
 use Rattle.plane.proofs.Places.{stretch-next, stretch-none, stretch-set}
-use Rattle.rule.specs.Table.{Accepted, pointAt}
 use Rattle.ordering.specs.Orders.{rowOrder}
 use Rattle.ordering.proofs.Orders.{pointsAt, order-points-in-order}
+use Rattle.rule.specs.Rows.{Accepted}
 use Rattle.live.specs.declared.Live.{Live}
 use Rattle.live.specs.Stands.{far, nextOn}
 use Rattle.sweep.specs.declared.Sweep.{Sweep}

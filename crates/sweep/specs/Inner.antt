@@ -14,9 +14,10 @@ use Rattle.plane.specs.Lists.{bit, sum, sumBelow}
 use Rattle.plane.specs.Words.{eqZ, pointsOf, rectsOf, flatRects, inOrder, pointAt, rectAt}
 use Rattle.rule.specs.declared.ForwardAnswer.{ForwardAnswer}
 use Rattle.rule.specs.Rule.{ruleList}
-use Rattle.rule.specs.Table.{Check, LENGTH, MANY, WORK, pointAt, rectAt, pointChecks, Accepted, accepted, verdict}
 use Rattle.rule.specs.Answers.{forwardSays, written}
 use Rattle.ordering.specs.Orders.{rowOrder}
+use Rattle.rule.specs.Checks.{Check, accepted, verdict}
+use Rattle.rule.specs.Rows.{LENGTH, MANY, WORK, pointChecks, Accepted}
 use Rattle.live.specs.declared.Live.{Live}
 use Rattle.live.specs.Stands.{far, number, rectNo, stand, nextOn, Stand, Sweeping}
 use Rattle.sweep.specs.declared.Sweep.{Sweep}

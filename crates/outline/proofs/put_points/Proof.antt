@@ -15,40 +15,40 @@ use Rattle.plane.proofs.Bits.{back}
 use Rattle.rule.specs.Answers.{written}
 use Rattle.rule.specs.Checks.{accepted}
 use Rattle.rule.proofs.Memory.{written-more}
-use Rattle.outline.specs.Inner.{pointsAt}
+use Rattle.outline.specs.Inner.{pointsOfKeys}
 use Rattle.outline.proofs.put_points.Statement.{statement}
 use Rattle.outline.proofs.put_points.Tie as tie
 
 -- the first i keys have i points
-length-first : (ks : List ℕ) (i : ℕ) → i ≤ length ks → length (pointsAt (take i ks)) ≡ i
-unfolding pointsAt
+length-first : (ks : List ℕ) (i : ℕ) → i ≤ length ks → length (pointsOfKeys (take i ks)) ≡ i
+unfolding pointsOfKeys
 length-first ks zero h = refl
 length-first [] (suc i) h = absurd (omega arith)
 length-first (k ∷ ks) (suc i) h = ap suc (length-first ks i (omega arith))
 
 -- and one more with the next
-next-first : (ks : List ℕ) (i : ℕ) → i < length ks → pointsAt (take (suc i) ks) ≡ pointsAt (take i ks) ++ (pointOf (getD ks i 0) ∷ [])
-unfolding pointsAt
+next-first : (ks : List ℕ) (i : ℕ) → i < length ks → pointsOfKeys (take (suc i) ks) ≡ pointsOfKeys (take i ks) ++ (pointOf (getD ks i 0) ∷ [])
+unfolding pointsOfKeys
 next-first [] i h = absurd (omega arith)
 next-first (k ∷ ks) zero h = refl
 next-first (k ∷ ks) (suc i) h = ap (λ (l : List Point). pointOf k ∷ l) (next-first ks i (omega arith))
 
 -- the next point put after those written is one more written
-put-next : (ks : List ℕ) (i : ℕ) (out : List ℤ) {p : Point} → i < length ks → 2 * i + 1 < length out → p ≡ pointOf (getD ks i 0) → set (set (written accepted (flatPoints (pointsAt (take i ks))) out) (2 * i) (p .x)) (2 * i + 1) (p .y) ≡ written accepted (flatPoints (pointsAt (take (i + 1) ks))) out
+put-next : (ks : List ℕ) (i : ℕ) (out : List ℤ) {p : Point} → i < length ks → 2 * i + 1 < length out → p ≡ pointOf (getD ks i 0) → set (set (written accepted (flatPoints (pointsOfKeys (take i ks))) out) (2 * i) (p .x)) (2 * i + 1) (p .y) ≡ written accepted (flatPoints (pointsOfKeys (take (i + 1) ks))) out
 unfolding flatPoints
 put-next ks i out {p} h room e =
-    let ps : List Point = pointsAt (take i ks) in
+    let ps : List Point = pointsOfKeys (take i ks) in
     let d : 2 * i ≡ length (flatPoints ps) = omega (arith, length-flat-points ps, length-first ks i (omega arith)) in
     rw (add-one, add-one, next-first ks i h, ← e, flat-append ps (p ∷ []), d) (written-more (flatPoints ps) (p .x ∷ p .y ∷ []) out (omega arith))
 
 abbrev Inv-loop : tie.InvT-loop
-Inv-loop keys n points₀ i₀ points i = (i ≤ n) × (length points ≡ length points₀) × (points ≡ written accepted (flatPoints (pointsAt (take i keys))) points₀)
+Inv-loop keys n points₀ i₀ points i = (i ≤ n) × (length points ≡ length points₀) × (points ≡ written accepted (flatPoints (pointsOfKeys (take i keys))) points₀)
 
 abbrev μ-loop : tie.MeasureT-loop
 μ-loop keys n points₀ i₀ points i = n - i
 
 loop-holds : tie.Need-loop-holds Inv-loop μ-loop
-unfolding flatPoints pointsAt
+unfolding flatPoints pointsOfKeys
 loop-holds c = (search needs, refl, refl)
 
 loop-again : tie.Need-loop-again Inv-loop μ-loop

@@ -10,9 +10,10 @@ use borrow.Author.Needs.{needs}
 use borrow.Author.Tests.{lt-ltb, le-ltb, eq-eqb, ne-eqb}
 use Rattle.plane.specs.Words.{pointsOf}
 use Rattle.plane.proofs.Arrays.{length-points}
-use Rattle.rule.specs.Table.{pointChecks, refused, verdict}
 use Rattle.rule.proofs.Verdicts.{verdict-whole}
 use Rattle.ordering.proofs.Orders.{order-found}
+use Rattle.rule.specs.Rows.{pointChecks}
+use Rattle.rule.specs.Checks.{refused, verdict}
 use Rattle.checks.specs.Screens.{screenOf}
 use Rattle.sweep.specs.Inner.{inputChecks, Ordered}
 use Rattle.sweep.proofs.check_input.Statement.{statement}

@@ -9,9 +9,9 @@ use borrow.Author.Needs.{needs}
 use borrow.Author.Tests.{ne-eqb}
 use Rattle.plane.specs.Words.{pointsOf}
 use Rattle.rule.specs.Rule.{ruleList}
-use Rattle.rule.specs.Table.{verdict, accepted, ForwardAccepted}
-use Rattle.rule.specs.Answers.{forwardAnswer, forwardWork, forwardOut}
+use Rattle.rule.specs.Answers.{forwardAnswer, forwardWork, forwardOut, ForwardAccepted}
 use Rattle.ordering.specs.Orders.{rowOrder}
+use Rattle.rule.specs.Checks.{verdict, accepted}
 use Rattle.checks.proofs.Screens.{screen-clear, screen-refused}
 use Rattle.sweep.specs.Inner.{inputChecks}
 use Rattle.sweep.proofs.BeforeRoom.{input-accepted, input-refused, input-refused-not-8}

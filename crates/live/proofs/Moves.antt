@@ -10,12 +10,12 @@ use lib.IntN.{ℤ, pos, negsuc}
 use lib.Signed.{leZ, ltZ}
 use Rattle.plane.specs.declared.Point.{Point}
 use Rattle.plane.specs.Lists.{odd}
-use Rattle.plane.specs.Words.{eqZ, inRange, pointInRange, rising, inOrder}
+use Rattle.plane.specs.Words.{eqZ, inRange, pointInRange, rising}
 use Rattle.plane.proofs.Order.{order, neg-up, range-up, eqZ-refl}
 use Rattle.plane.proofs.Bools.{clash, and-parts, false-xor, xor-assoc, xor-comm, xor-left-comm, xor-back}
 use Rattle.plane.proofs.Sums.{all-last-added}
 use Rattle.plane.proofs.Parity.{odd-cons}
-use Rattle.plane.proofs.Rising.{rising-rest, rising-along, inOrder-rising, inOrder-of, inOrder-all, inOrder-odd}
+use Rattle.plane.proofs.Rising.{rising-rest, rising-along}
 use Rattle.rule.specs.Rule.{leftAfter, ruleList}
 use Rattle.rule.specs.Table.{Accepted}
 use Rattle.live.specs.declared.Live.{Live}
@@ -100,15 +100,15 @@ lower-go hm om h o r a b c = simp (xor-assoc, xor-left-comm, xor-comm, xor-back,
 -- ---- The moves
 
 module _ {ps : List Point} (acc : Accepted ps) where
-  -- a sweep starts below all rows
-  pub starts : Sweeping ps (stand (inOrder ps) (negsuc 1_999_999_999) far far far 0 [] [])
+  -- a sweep of points in order starts below all rows
+  pub starts : rising ps ≡ true → Sweeping ps (stand ps (negsuc 1_999_999_999) far far far 0 [] [])
   unfolding leftAfter pointInRange
-  starts = record {
-    rest-rising = inOrder-rising ps;
-    rest-range = λ q m. acc .range q (inOrder-of ps q m);
-    rest-from = λ q m. from-below (q .y) (and-parts (inRange (q .x)) (inRange (q .y)) (acc .range q (inOrder-of ps q m)) .1);
-    rest-all = λ q m h. inOrder-all ps q m;
-    shown = λ f. sym (inOrder-odd f ps (acc .once)) ∙ sym (shows-rest f ps (inOrder ps) (negsuc 1_999_999_999) 0);
+  starts in-order = record {
+    rest-rising = in-order;
+    rest-range = acc .range;
+    rest-from = λ q m. from-below (q .y) (and-parts (inRange (q .x)) (inRange (q .y)) (acc .range q m) .1);
+    rest-all = λ q m h. m;
+    shown = λ f. sym (shows-rest f ps ps (negsuc 1_999_999_999) 0);
     begun = λ i h. absurd (omega arith);
     given-few = omega arith;
     passed-live = λ k m. absurd (not-nil m);

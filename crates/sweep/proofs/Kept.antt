@@ -33,6 +33,6 @@ pub kept-put : (n : ℕ) (a : List ℤ) (i : ℕ) (r : Rect) → 4 * i + 3 < n �
 kept-put n a i r h = record { same-length = length-put-rect a i r; same-past = drop-put-rect n a i r h }
 
 -- with its start zeroed it holds no points
-pub kept-drained : (n : ℕ) {m : ℕ} {before after : List ℤ} → m ≡ n → KeptPast (2 * n) before after → zeroed (2 * m) after ≡ workOf n [] before
+pub kept-drained : {l m n : ℕ} {before after : List ℤ} → l ≡ n → m ≡ n → KeptPast (2 * l) before after → zeroed (2 * m) after ≡ workOf n [] before
 unfolding workOf flatPoints
-kept-drained n e k = rw (e, k .same-past, sub-zero n)
+kept-drained {n = n} d e k = let p = rw d at (k .same-past) in rw (e, p, sub-zero n)

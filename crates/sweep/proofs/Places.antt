@@ -1,8 +1,8 @@
 -- The live rectangles that a sweep has passed and those ahead, and the point that is next: what stands where, and what one put at a place
 -- changes.
-use mathlib.Core.Path.{_≡_, refl, sym, ap, _∙_}
+use mathlib.Core.Path.{_≡_, refl, sym, _∙_}
 use mathlib.Core.Logic.{_⊎_, inl, inr}
-use Prim.Native.Nat.{ℕ, _+_, _*_, _/_, _<_, _≤_}
+use Prim.Native.Nat.{ℕ, _+_, _*_, _<_, _≤_}
 use native.Mathlib.Numerals.{add-one}
 use native.Mathlib.Omega.{arith}
 use mathlib.Core.Bool.{Bool, true, false, cond}
@@ -13,19 +13,16 @@ use lib.IntN.{ℤ}
 use lib.Dec.{ltb}
 use borrow.Author.Tests.{ltb-true, ltb-false}
 use Rattle.plane.specs.declared.Point.{Point}
-use Rattle.plane.specs.Words.{origin, eqZ, pointsOf, inOrder}
+use Rattle.plane.specs.Words.{origin, eqZ, pointsOf}
 use Rattle.plane.proofs.Bools.{clash, cond-case}
 use Rattle.plane.proofs.Order.{eqZ-is, eqZ-refl}
 use Rattle.plane.proofs.Maps.{map-at}
-use Rattle.plane.proofs.Arrays.{length-points}
 use Rattle.plane.proofs.Places.{stretch-next, stretch-none, stretch-set}
-use Rattle.rule.specs.Table.{Accepted, pointAt}
-use Rattle.checks.specs.Screens.{rowOrder}
-use Rattle.checks.proofs.Orders.{pointsAt, order-points-in-order}
+use Rattle.rule.specs.Table.{pointAt}
 use Rattle.live.specs.declared.Live.{Live}
 use Rattle.live.specs.Stands.{far, nextOn}
 use Rattle.sweep.specs.declared.Sweep.{Sweep}
-use Rattle.sweep.specs.Inner.{livesOf, liveAt, putLive, KeptPast, farPoint, farLive, nextPoint, nextLive, onRowOf}
+use Rattle.sweep.specs.Inner.{livesOf, liveAt, putLive, KeptPast, farPoint, farLive, nextPoint, nextLive, onRowOf, pointsAt}
 use Rattle.sweep.proofs.Lives.{length-lives, noLive, live-at, lives-put}
 use Rattle.sweep.proofs.Kept.{kept-put}
 
@@ -62,37 +59,26 @@ meets work i many w = go (ltb i many) refl
 
 -- ---- The next point
 
--- the row order has as many places as there are points
-pub order-places : (a : List ℤ) {order : List ℕ} → Accepted (pointsOf a) → order ≡ rowOrder (pointsOf a) → length order ≡ length a / 2
-order-places a acc e = ap length e ∙ order-points-in-order acc .1 ∙ length-points a
-
 -- the first of some points, or a far one
 abbrev pub nextOf : List Point → Point
 nextOf [] = farPoint
 nextOf (p ∷ ps) = p
 
 -- the next point is the first of those to come
-pub next-is-first : (a : List ℤ) → Accepted (pointsOf a) → (i : ℕ) → nextPoint a (rowOrder (pointsOf a)) i ≡ nextOf (drop i (inOrder (pointsOf a)))
-next-is-first a acc i = go (ltb i (length o)) refl
+pub next-is-first : (a : List ℤ) (order : List ℕ) (i : ℕ) → nextPoint a order i ≡ nextOf (drop i (pointsAt a order))
+next-is-first a order i = go (ltb i (length order)) refl
   where
-    ps : List Point
-    ps = pointsOf a
+    qs : List Point
+    qs = pointsAt a order
 
-    o : List ℕ
-    o = rowOrder ps
+    many : length qs ≡ length order
+    many = length-map order (pointAt (pointsOf a))
 
-    at : pointsAt ps o ≡ inOrder ps
-    at = order-points-in-order acc .0
-
-    go : (t : Bool) → ltb i (length o) ≡ t → cond t (pointAt ps (getD o i 0)) farPoint ≡ nextOf (drop i (inOrder ps))
+    go : (t : Bool) → ltb i (length order) ≡ t → cond t (pointAt (pointsOf a) (getD order i 0)) farPoint ≡ nextOf (drop i qs)
     go true e =
-        let h = ltb-true i (length o) e in
-        let l = length-map o (pointAt ps) in
-        rw (← at, drop-cons (pointsAt ps o) i origin (omega arith)) (sym (map-at (pointAt ps) o i 0 origin h))
-    go false e =
-        let l = length-map o (pointAt ps) in
-        let h = ltb-false i (length o) e in
-        rw (← at, drop-of-length-le (pointsAt ps o) {i = i} (omega arith))
+        let h = ltb-true i (length order) e in
+        rw (drop-cons qs i origin (omega (arith, many))) (sym (map-at (pointAt (pointsOf a)) order i 0 origin h))
+    go false e = let h = ltb-false i (length order) e in rw (drop-of-length-le qs {i = i} (omega (arith, many)))
 
 -- on the row it is where the next point of the row is
 pub on-row-at : (z : Sweep) (rest : List Point) → onRowOf z (nextOf rest) .x ≡ nextOn (z .row) rest

@@ -11,7 +11,7 @@ use lib.Dec.{ltb}
 use Rattle.plane.specs.declared.Point.{Point}
 use Rattle.plane.specs.declared.Rect.{Rect}
 use Rattle.plane.specs.Lists.{bit, sum, sumBelow}
-use Rattle.plane.specs.Words.{eqZ, pointsOf, rectsOf, flatRects, inOrder}
+use Rattle.plane.specs.Words.{eqZ, pointsOf, rectsOf, flatRects, rising}
 use Rattle.rule.specs.declared.ForwardAnswer.{ForwardAnswer}
 use Rattle.rule.specs.Rule.{ruleList}
 use Rattle.rule.specs.Table.{Check, LENGTH, MANY, WORK, pointAt, rectAt, pointChecks, Accepted, accepted, verdict}
@@ -156,71 +156,83 @@ pub record Turned (p : Point) (z : Sweep) (before : List ℤ) (r : Sweep) (after
   pub last-left : (r .passed ≡ 0) ⊎ (leZ (liveAt before (r .passed - 1) .right) (p .x) ≡ true)
   pub kept-past : KeptPast (4 * z .ahead) before after
 
--- ---- A sweep of an array's points
+-- ---- A sweep of points
+
+-- the points of an array at some places
+abbrev pub pointsAt : (a : List ℤ) (order : List ℕ) → List Point
+pointsAt a order = map (pointAt (pointsOf a)) order
 
 -- how many live rectangles the working array has room for
-abbrev pub roomFor : List ℤ → ℕ
-roomFor a = length a / 2 / 2
+abbrev pub roomFor : List Point → ℕ
+roomFor qs = length qs / 2
 
 -- those passed
 abbrev pub passedIn : (work : List ℤ) → Sweep → List Live
 passedIn work z = take (z .passed) (livesOf work)
 
 -- those ahead
-abbrev pub aheadIn : (a work : List ℤ) → Sweep → List Live
-aheadIn a work z = drop (z .ahead) (take (roomFor a) (livesOf work))
+abbrev pub aheadIn : (qs : List Point) (work : List ℤ) → Sweep → List Live
+aheadIn qs work z = drop (z .ahead) (take (roomFor qs) (livesOf work))
 
 -- the points to come
-abbrev pub restOf : (a : List ℤ) → Sweep → List Point
-restOf a z = drop (z .next) (inOrder (pointsOf a))
+abbrev pub restOf : (qs : List Point) → Sweep → List Point
+restOf qs z = drop (z .next) qs
 
 -- where the sweep stands, with a point in hand or none
-abbrev pub standOf : (a work : List ℤ) (z : Sweep) (hand : ℤ) → Stand
-standOf a work z hand = stand (restOf a z) (z .row) (z .carried) (z .opened) hand (z .given) (passedIn work z) (aheadIn a work z)
+abbrev pub standOf : (qs : List Point) (work : List ℤ) (z : Sweep) (hand : ℤ) → Stand
+standOf qs work z hand = stand (restOf qs z) (z .row) (z .carried) (z .opened) hand (z .given) (passedIn work z) (aheadIn qs work z)
 
 -- 1 for an end that is there
 abbrev pub there : ℤ → ℕ
 there x = bit (not (eqZ x far))
 
--- a sweep of accepted points is under way
-pub record Underway (a work : List ℤ) (z : Sweep) : Type 0 where
-  pub points : Accepted (pointsOf a)
-  pub few : length a / 2 ≤ 4096
-  pub working : 2 * (length a / 2) ≤ length work
-  pub next-within : z .next ≤ length a / 2
+-- points that can be swept with a working array of so many numbers
+pub record Ready (qs : List Point) (work : ℕ) : Type 0 where
+  pub points : Accepted qs
+  pub in-order : rising qs ≡ true
+  pub few : length qs ≤ 4096
+  pub working : 2 * length qs ≤ work
+
+-- a sweep of them is under way, with a point in hand or none
+pub record Underway (qs : List Point) (work : List ℤ) (z : Sweep) (hand : ℤ) : Type 0 where
+  pub ready : Ready qs (length work)
+  pub next-within : z .next ≤ length qs
   pub passed-within : z .passed ≤ z .ahead
-  pub ahead-within : z .ahead ≤ roomFor a
+  pub ahead-within : z .ahead ≤ roomFor qs
   pub carried-near : leZ (z .carried) far ≡ true
   -- the live rectangles and the points to come have room
-  pub room : 2 * (z .passed + (roomFor a - z .ahead)) + ((length a / 2 - z .next) + (there (z .carried) + there (z .opened))) ≤ length a / 2
-  pub sweeping : Sweeping (pointsOf a) (standOf a work z far)
+  pub room : 2 * (z .passed + (roomFor qs - z .ahead)) + ((length qs - z .next) + (there (z .carried) + (there (z .opened) + there hand))) ≤ length qs
+  pub sweeping : Sweeping qs (standOf qs work z hand)
 
 -- how much is to come: every move makes it less
-abbrev pub toCome : (a : List ℤ) → Sweep → ℕ
-toCome a z = (2 * (length a / 2 - z .next) + bit (eqZ (nextOn (z .row) (restOf a z)) far)) * 8192 + (2 * (roomFor a - z .ahead) + there (z .carried))
+abbrev pub toCome : (qs : List Point) → Sweep → ℕ
+toCome qs z = (2 * (length qs - z .next) + bit (eqZ (nextOn (z .row) (restOf qs z)) far)) * 8192 + (2 * (roomFor qs - z .ahead) + there (z .carried))
 
 -- every weight, summed over the live rectangles' numbers
-abbrev pub liveSum : (a work : List ℤ) (z : Sweep) → (ℕ → ℕ) → ℕ
-liveSum a work z w = sum (λ k. w (number k)) (passedIn work z ++ aheadIn a work z)
+abbrev pub liveSum : (qs : List Point) (work : List ℤ) (z : Sweep) → (ℕ → ℕ) → ℕ
+liveSum qs work z w = sum (λ k. w (number k)) (passedIn work z ++ aheadIn qs work z)
 
 -- a move that goes on: what has begun is live
-pub record GoesOn (a : List ℤ) (z : Sweep) (before : List ℤ) (at : Sweep) (after : List ℤ) : Type 0 where
-  pub underway : Underway a after at
-  pub less : toCome a at < toCome a z
-  pub balance : (w : ℕ → ℕ) → liveSum a after at w + sumBelow (z .given) w ≡ liveSum a before z w + sumBelow (at .given) w
+pub record GoesOn (qs : List Point) (z : Sweep) (before : List ℤ) (at : Sweep) (after : List ℤ) : Type 0 where
+  pub kept : KeptPast (2 * length qs) before after
+  pub underway : Underway qs after at far
+  pub less : toCome qs at < toCome qs z
+  pub balance : (w : ℕ → ℕ) → liveSum qs after at w + sumBelow (z .given) w ≡ liveSum qs before z w + sumBelow (at .given) w
 
 -- a move that gives a rectangle: it is the one at its place in the list, and live no more
-pub record Gives (a : List ℤ) (z : Sweep) (before : List ℤ) (rect : Rect) (place : ℕ) (at : Sweep) (after : List ℤ) : Type 0 where
-  pub underway : Underway a after at
-  pub less : toCome a at < toCome a z
-  pub in-list : place < length (ruleList (pointsOf a))
-  pub rect-is : rect ≡ rectNo (pointsOf a) place
-  pub balance : (w : ℕ → ℕ) → liveSum a after at w + (w place + sumBelow (z .given) w) ≡ liveSum a before z w + sumBelow (at .given) w
+pub record Gives (qs : List Point) (z : Sweep) (before : List ℤ) (rect : Rect) (place : ℕ) (at : Sweep) (after : List ℤ) : Type 0 where
+  pub kept : KeptPast (2 * length qs) before after
+  pub underway : Underway qs after at far
+  pub less : toCome qs at < toCome qs z
+  pub in-list : place < length (ruleList qs)
+  pub rect-is : rect ≡ rectNo qs place
+  pub balance : (w : ℕ → ℕ) → liveSum qs after at w + (w place + sumBelow (z .given) w) ≡ liveSum qs before z w + sumBelow (at .given) w
 
 -- a move that is refused, with DRAINED: none is live, and all have begun
-pub record AllGiven (a : List ℤ) (z : Sweep) (before : List ℤ) : Type 0 where
-  pub none-live : passedIn before z ++ aheadIn a before z ≡ []
-  pub all-begun : z .given ≡ length (ruleList (pointsOf a))
+pub record AllGiven (qs : List Point) (z : Sweep) (before after : List ℤ) : Type 0 where
+  pub kept : KeptPast (2 * length qs) before after
+  pub none-live : passedIn before z ++ aheadIn qs before z ≡ []
+  pub all-begun : z .given ≡ length (ruleList qs)
 
 -- document 01's number for each case of a move: with a rectangle, or on the way to one, it is answer 0
 abbrev pub moveNumber : Move → ℕ
@@ -235,15 +247,16 @@ movePlace (Rectangle rect place at) = 0
 movePlace (Refused k p) = p
 
 -- what a move does
-abbrev pub Advanced : (a : List ℤ) (z : Sweep) (before : List ℤ) → Move → (after : List ℤ) → Type 0
-Advanced a z before (Onward at) after = GoesOn a z before at after
-Advanced a z before (Rectangle rect place at) after = Gives a z before rect place at after
-Advanced a z before (Refused k p) after = (moveNumber (Refused k p) ≡ 10) × (movePlace (Refused k p) ≡ 0) × AllGiven a z before
+abbrev pub Advanced : (qs : List Point) (z : Sweep) (before : List ℤ) → Move → (after : List ℤ) → Type 0
+Advanced qs z before (Onward at) after = GoesOn qs z before at after
+Advanced qs z before (Rectangle rect place at) after = Gives qs z before rect place at after
+Advanced qs z before (Refused k p) after = (moveNumber (Refused k p) ≡ 10) × (movePlace (Refused k p) ≡ 0) × AllGiven qs z before after
 
 -- the list is counted and summed, and written if asked for
-pub record Swept (a : List ℤ) (writes : Bool) (before : List ℤ) (r : ForwardAnswer) (after : List ℤ) : Type 0 where
-  pub answer : r ≡ forwardSays accepted (ruleList (pointsOf a))
-  pub output : after ≡ cond writes (written accepted (flatRects (ruleList (pointsOf a))) before) before
+pub record Swept (qs : List Point) (writes : Bool) (work before : List ℤ) (r : ForwardAnswer) (work-after after : List ℤ) : Type 0 where
+  pub kept : KeptPast (2 * length qs) work work-after
+  pub answer : r ≡ forwardSays accepted (ruleList qs)
+  pub output : after ≡ cond writes (written accepted (flatRects (ruleList qs)) before) before
 
 -- ---- Checks
 
@@ -254,3 +267,11 @@ inputChecks a work = LENGTH (length a) 2 ∷ MANY 4096 (length a / 2) ∷ WORK w
 -- where they refuse nothing, places begin with those of the points in order
 pub record Ordered (a : List ℤ) (work : ℕ) (order : List ℕ) : Type 0 where
   pub in-order : verdict (inputChecks a work) ≡ accepted → take (length a / 2) order ≡ rowOrder (pointsOf a)
+
+-- ---- The array's points
+
+-- the points at places stand for all of an array: they can be swept, are as many, and have the same list
+pub record StandFor (a : List ℤ) (work : ℕ) (order : List ℕ) : Type 0 where
+  pub ready : Ready (pointsAt a order) work
+  pub as-many : length order ≡ length a / 2
+  pub same-list : ruleList (pointsAt a order) ≡ ruleList (pointsOf a)

@@ -11,14 +11,14 @@ ghost use mir.Val.{SFits};
 ghost use lib.ListN.{length};
 ghost use lib.IntN.{pos, _-ℤ_};
 ghost use lib.Signed.{ltZ, leZ};
-ghost use Prim.Native.Nat.{_+_, _*_, _/_, _<_, _≤_};
+ghost use Prim.Native.Nat.{_+_, _*_, _<_, _≤_};
 ghost use Rattle.plane.specs.Words.{eqZ, pointsOf, flat, areaOf, edgeOf};
 ghost use Rattle.rule.specs.Rule.{ruleList};
 ghost use Rattle.rule.specs.Table.{verdict, ForwardAccepted};
 ghost use Rattle.rule.specs.Answers.{forwardAnswer, forwardWork, forwardOut};
-ghost use Rattle.checks.specs.Screens.{screenOf, rowOrder};
+ghost use Rattle.checks.specs.Screens.{screenOf};
 ghost use Rattle.live.specs.Stands.{far, number};
-ghost use Rattle.sweep.specs.Inner.{farPoint, farLive, liveAt, putLive, putRect, onRowOf, nextPoint, nextLive, nearer, cancelled, takenFrom, carrying, passing, closed, opening, newLive, endPut, endPutWork, cutTo, cutWork, atRow, Turned, endedBox, startOf, Underway, Advanced, KeptPast, zeroed, inputChecks, Ordered, Swept};
+ghost use Rattle.sweep.specs.Inner.{farPoint, farLive, liveAt, putLive, putRect, onRowOf, nextPoint, nextLive, nearer, cancelled, takenFrom, carrying, passing, closed, opening, newLive, endPut, endPutWork, cutTo, cutWork, atRow, Turned, endedBox, startOf, Underway, Advanced, zeroed, inputChecks, Ordered, Swept, pointsAt, Ready, StandFor};
 use checks::Screen;
 use checks::order_points;
 use live::Live;
@@ -448,11 +448,10 @@ fn turn(work: &mut [i32], z: Sweep, p: Point) -> Sweep
 
 // ---- One move
 
-// The next move of a sweep of accepted points, which stand in this order.
+// The next move of a sweep of the points at these places.
 fn advance(points: &[i32], order: &[u16], work: &mut [i32], z: Sweep) -> Move
-    requires { ⌜ Underway (now points) (now work) z × (now order ≡ rowOrder (pointsOf (now points))) ⌝ }
-    ensures { λ r. ⌜ Advanced (now (points .entry)) z (now (work .entry)) r (now (work .exit)) ⌝ }
-    ensures { λ r. ⌜ KeptPast (2 * (length (now (points .entry)) / 2)) (now (work .entry)) (now (work .exit)) ⌝ }
+    requires { ⌜ Underway (pointsAt (now points) (now order)) (now work) z far ⌝ }
+    ensures { λ r. ⌜ Advanced (pointsAt (now (points .entry)) (now (order .entry))) z (now (work .entry)) r (now (work .exit)) ⌝ }
 {
     let p = next_point(points, order, z.next);
     let t = on_row(z, p);
@@ -546,10 +545,9 @@ fn sweep_all(
     rects: &mut [i32],
     writes: bool,
 ) -> ForwardAnswer
-    requires { ⌜ ForwardAccepted (now points) (length (now work)) (4 * length (ruleList (pointsOf (now points)))) × (now order ≡ rowOrder (pointsOf (now points))) ⌝ }
-    requires { ⌜ (writes ≡ true → 4 * length (ruleList (pointsOf (now points))) ≤ length (now rects)) ⌝ }
-    ensures { λ r. ⌜ Swept (now (points .entry)) writes (now (rects .entry)) r (now (rects .exit)) ⌝ }
-    ensures { λ r. ⌜ KeptPast (2 * (length (now (points .entry)) / 2)) (now (work .entry)) (now (work .exit)) ⌝ }
+    requires { ⌜ Ready (pointsAt (now points) (now order)) (length (now work)) ⌝ }
+    requires { ⌜ (writes ≡ true → 4 * length (ruleList (pointsAt (now points) (now order))) ≤ length (now rects)) ⌝ }
+    ensures { λ r. ⌜ Swept (pointsAt (now (points .entry)) (now (order .entry))) writes (now (work .entry)) (now (rects .entry)) r (now (work .exit)) (now (rects .exit)) ⌝ }
 {
     let mut z = start(order.len() / 2);
     let mut made: usize = 0;
@@ -604,9 +602,15 @@ fn no_list(answer: u32, place: u64) -> ForwardAnswer
     }
 }
 
-// Forward of points that are accepted and stand in this order: counts the rectangles, and writes only where all have room.
-fn fracture(points: &[i32], order: &[u16], work: &mut [i32], rects: &mut [i32]) -> ForwardAnswer
-    requires { ⌜ ForwardAccepted (now points) (length (now work)) (4 * length (ruleList (pointsOf (now points)))) × (now order ≡ rowOrder (pointsOf (now points))) ⌝ }
+// Forward of accepted points, for which those at these places stand: counts the rectangles, and writes only where all have room.
+fn count_then_write(
+    points: &[i32],
+    order: &[u16],
+    work: &mut [i32],
+    rects: &mut [i32],
+) -> ForwardAnswer
+    requires { ⌜ ForwardAccepted (now points) (length (now work)) (4 * length (ruleList (pointsOf (now points)))) ⌝ }
+    requires { ⌜ StandFor (now points) (length (now work)) (now order) ⌝ }
     ensures { λ r. ⌜ r ≡ forwardAnswer (now (points .entry)) (length (now (work .entry))) (length (now (rects .entry))) ⌝ }
     ensures { λ r. ⌜ now (work .exit) ≡ forwardWork (now (points .entry)) (now (work .entry)) (length (now (rects .entry))) ⌝ }
     ensures { λ r. ⌜ now (rects .exit) ≡ forwardOut (now (points .entry)) (length (now (work .entry))) (now (rects .entry)) ⌝ }
@@ -666,7 +670,7 @@ pub fn sweep_points(points: &[i32], work: &mut [i32], rects: &mut [i32]) -> Forw
     match check_input(points, work.len(), &mut order) {
         Screen::Clear => {
             let n = points.len() / 2;
-            fracture(points, &order[0..n], work, rects)
+            count_then_write(points, &order[0..n], work, rects)
         }
         Screen::Refused { answer, place } => no_list(answer, place),
     }

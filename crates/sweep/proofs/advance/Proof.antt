@@ -4,17 +4,18 @@ use native.Mathlib.Omega.{arith}
 use mathlib.Core.Bool.{true, false, not}
 use mathlib.Core.Path.{_≡_, refl, sym, ap, _∙_}
 use mathlib.Core.Logic.{_⊎_, inl, inr, ⊎-elim}
-use lib.ListN.{length}
+use mathlib.Core.List.{List}
+use lib.ListN.{length, length-map}
 use lib.Signed.{ltZ}
 use borrow.Author.Tests.{not-true, not-false}
 use borrow.Author.Needs.{needs}
 use Rattle.plane.specs.declared.Point.{Point}
-use Rattle.plane.specs.Words.{eqZ}
+use Rattle.plane.specs.Words.{eqZ, pointsOf}
 use Rattle.plane.proofs.Bools.{or-parts, or-one}
+use Rattle.rule.specs.Table.{pointAt}
 use Rattle.live.specs.Stands.{far, nextOn}
-use Rattle.sweep.specs.Inner.{nextLive, nearer, roomFor, restOf}
-use Rattle.sweep.proofs.Kept.{kept-all}
-use Rattle.sweep.proofs.Places.{nextOf, order-places, next-is-first, on-row-at}
+use Rattle.sweep.specs.Inner.{nextLive, nearer, pointsAt, roomFor, restOf}
+use Rattle.sweep.proofs.Places.{nextOf, next-is-first, on-row-at}
 use Rattle.sweep.proofs.Taking.{goes-cancelled}
 use Rattle.sweep.proofs.NextRow.{turns-on, stops}
 use Rattle.sweep.proofs.Meeting.{Comes, room-left, goes-put, room-here, is-live, goes-passed}
@@ -22,33 +23,36 @@ use Rattle.sweep.proofs.Cutting.{sides-fit, gives-cut}
 use Rattle.sweep.proofs.advance.Statement.{statement}
 use Rattle.sweep.proofs.advance.Tie as tie
 
+-- the points that are swept
+abbrev swept : tie.Start → List Point
+swept s = pointsAt (s .args .points .now) (s .args .order .now)
+
 -- the next point is the first of those to come
-next-is : (c : tie.After-next-point) → let r = c .before .before .args in c .next-point .result ≡ nextOf (restOf (r .points .now) (r .z))
-next-is c = let s = c .before .before in c .next-point .ensures ∙ rw (s .pre .1) (next-is-first (s .args .points .now) (s .pre .0 .points) (s .args .z .next))
+next-is : (c : tie.After-next-point) → let s = c .before .before in c .next-point .result ≡ nextOf (restOf (swept s) (s .args .z))
+next-is c = let s = c .before .before in c .next-point .ensures ∙ next-is-first (s .args .points .now) (s .args .order .now) (s .args .z .next)
 
 -- on the row it is where the next point of the row is
-at-next : (c : tie.After-on-row) → let r = c .before .before .before .args in c .on-row .result .x ≡ nextOn (r .z .row) (restOf (r .points .now) (r .z))
+at-next : (c : tie.After-on-row) → let s = c .before .before .before in let z = s .args .z in c .on-row .result .x ≡ nextOn (z .row) (restOf (swept s) z)
 at-next c =
-    let r = c .before .before .before .args in
-    ap (λ (p : Point). p .x) (c .on-row .ensures) ∙ rw (next-is (c .before)) (on-row-at (r .z) (restOf (r .points .now) (r .z)))
+    let s = c .before .before .before in
+    let z = s .args .z in
+    ap (λ (p : Point). p .x) (c .on-row .ensures) ∙ rw (next-is (c .before)) (on-row-at z (restOf (swept s) z))
 
 cancel-requires : tie.Need-cancel-requires
-cancel-requires c κs = let u = c .before .before .before .before .before .before .before .pre .0 in omega (arith, u .next-within, u .few)
+cancel-requires c κs = let u = c .before .before .before .before .before .before .before .pre in omega (arith, u .next-within, u .ready .few)
 
 returns : tie.Need-returns
 returns c =
     let d = c .before .before .before .before in
     let o = d .before in
-    rw (c .cancel .ensures) (goes-cancelled (o .before .before .before .pre .0) (o .on-row .result) (at-next o) (sym (d .is-carried .ensures) ∙ c .before .before .before .if1 .taken) (sym (c .before .before .is-far .ensures) ∙ not-true (c .before .before .is-far .result) (c .before .if2 .taken)), kept-all)
+    rw (c .cancel .ensures) (goes-cancelled (o .before .before .before .pre) (o .on-row .result) (at-next o) (sym (d .is-carried .ensures) ∙ c .before .before .before .if1 .taken) (sym (c .before .before .is-far .ensures) ∙ not-true (c .before .before .is-far .result) (c .before .if2 .taken)))
 
 returns-2 : tie.Need-returns-2
 returns-2 c =
     let e = c .before .before in
     let d = e .before .before .before in
-    let o = d .before in (
-      (refl, refl, stops (o .before .before .before .pre .0) (o .before .next-point .result) (o .on-row .result) (next-is (o .before)) (at-next o) (sym (d .is-carried .ensures) ∙ e .before .before .if1 .taken) (sym (e .before .is-far .ensures) ∙ not-false (e .before .is-far .result) (e .if2 .left)) (sym (c .before .is-far2 .ensures) ∙ c .if3 .taken)),
-      kept-all,
-    )
+    let o = d .before in
+    (refl, refl, stops (o .before .before .before .pre) (o .before .next-point .result) (o .on-row .result) (next-is (o .before)) (at-next o) (sym (d .is-carried .ensures) ∙ e .before .before .if1 .taken) (sym (e .before .is-far .ensures) ∙ not-false (e .before .is-far .result) (e .if2 .left)) (sym (c .before .is-far2 .ensures) ∙ c .if3 .taken))
 
 returns-3 : tie.Need-returns-3
 returns-3 c =
@@ -57,28 +61,28 @@ returns-3 c =
     let e = f .before .before in
     let d = e .before .before .before in
     let o = d .before in
-    turns-on (o .before .before .before .pre .0) (o .before .next-point .result) (o .on-row .result) (next-is (o .before)) (at-next o) (sym (d .is-carried .ensures) ∙ e .before .before .if1 .taken) (sym (e .before .is-far .ensures) ∙ not-false (e .before .is-far .result) (e .if2 .left)) (sym (f .before .is-far2 .ensures) ∙ f .if3 .left) (t .turn .ensures)
+    turns-on (o .before .before .before .pre) (o .before .next-point .result) (o .on-row .result) (next-is (o .before)) (at-next o) (sym (d .is-carried .ensures) ∙ e .before .before .if1 .taken) (sym (e .before .is-far .ensures) ∙ not-false (e .before .is-far .result) (e .if2 .left)) (sym (f .before .is-far2 .ensures) ∙ f .if3 .left) (t .turn .ensures)
 
 -- as many live rectangles have room as the order has pairs of places
-room-is : (s : tie.Start) → length (s .args .order .now) / 2 ≡ roomFor (s .args .points .now)
-room-is s = ap (λ (n : ℕ). n / 2) (order-places (s .args .points .now) (s .pre .0 .points) (s .pre .1))
+room-is : (s : tie.Start) → length (s .args .order .now) / 2 ≡ roomFor (swept s)
+room-is s = ap (λ (n : ℕ). n / 2) (sym (length-map (s .args .order .now) (pointAt (pointsOf (s .args .points .now)))))
 
 next-live-requires : tie.Need-next-live-requires
 next-live-requires c κs =
     let s = c .before .before .before .before .before .before in
-    omega (arith, room-is s, s .pre .0 .working)
+    omega (arith, room-is s, s .pre .ready .working)
 
 taken-requires : tie.Need-taken-requires
-taken-requires c κs = let u = c .before .before .before .before .before .before .before .before .before .before .before .pre .0 in omega (arith, u .next-within, u .few)
+taken-requires c κs = let u = c .before .before .before .before .before .before .before .before .before .before .before .pre in omega (arith, u .next-within, u .ready .few)
 
 -- with an end to put, the sweep comes to the next live rectangle
-comes : (c : tie.After-nearer-end) → let o = c .before .before .before .before .before in let r = o .before .before .before .args in Comes (r .points .now) (r .work .now) (r .z) (o .on-row .result) (c .before .next-live .result)
+comes : (c : tie.After-nearer-end) → let o = c .before .before .before .before .before in let s = o .before .before .before in Comes (swept s) (s .args .work .now) (s .args .z) (o .on-row .result) (c .before .next-live .result)
 comes c =
     let d = c .before .before .before .before in
     let o = d .before in
     let s = o .before .before .before in
     record {
-      underway = s .pre .0;
+      underway = s .pre;
       at-next = at-next o;
       end-waits = sym (d .is-carried .ensures) ∙ c .before .before .before .if1 .left;
       next-ahead = c .before .next-live .ensures ∙ ap (nextLive (s .args .work .now) (s .args .z .ahead)) (room-is s);

@@ -16,7 +16,7 @@ use Rattle.rule.proofs.Refusals.{accepted-points}
 use Rattle.checks.specs.Screens.{screenOf, orderChecks, rowOrder, orderLeft}
 use Rattle.checks.proofs.Screens.{order-few}
 use Rattle.sweep.specs.Inner.{inputChecks, Ordered}
-use Rattle.sweep.proofs.Places.{order-places}
+use Rattle.sweep.proofs.InOrder.{order-places}
 use Rattle.sweep.proofs.check_input.Statement.{statement}
 use Rattle.sweep.proofs.check_input.Tie as tie
 

@@ -15,7 +15,7 @@ use Rattle.checks.specs.Screens.{rowOrder}
 use Rattle.checks.proofs.Screens.{screen-clear, screen-refused}
 use Rattle.sweep.specs.Inner.{inputChecks}
 use Rattle.sweep.proofs.BeforeRoom.{input-accepted, input-refused, input-refused-not-8}
-use Rattle.sweep.proofs.Places.{order-places}
+use Rattle.sweep.proofs.InOrder.{order-places, order-stands}
 use Rattle.sweep.proofs.sweep_points.Statement.{statement}
 use Rattle.sweep.proofs.sweep_points.Tie as tie
 
@@ -33,15 +33,15 @@ ready m = let s = m .before .before .before .before in input-accepted (s .args .
 in-order : (m : tie.After-enum-told) → let a = m .before .before .before .before .args .points .now in take (length a / 2) (m .before .before .check-input .last .1 .1 .0) ≡ rowOrder (pointsOf a)
 in-order m = m .before .before .check-input .ensures .1 .in-order (clear m)
 
-part-fracture-end : tie.Need-part-fracture-end
-part-fracture-end c =
+part-count-then-write-end : tie.Need-part-count-then-write-end
+part-count-then-write-end c =
     let m = c .before in
     omega (arith, order-places _ (ready m .points) (in-order m), length-take (length (m .before .before .before .before .args .points .now) / 2) (m .before .before .check-input .last .1 .1 .0))
 
-fracture-requires : tie.Need-fracture-requires
-fracture-requires c κs =
+count-then-write-requires : tie.Need-count-then-write-requires
+count-then-write-requires c κs =
     let m = c .before .before .before .before in
-    (ready m, rw sub-zero (in-order m))
+    (ready m, order-stands (ready m) (rw sub-zero (in-order m)))
 
 returns-2 : tie.Need-returns-2
 unfolding forwardAnswer forwardWork forwardOut
@@ -63,8 +63,8 @@ sweep-points-spec =
     (λ c. search needs)
     (λ c. search needs)
     (λ c. search needs)
-    part-fracture-end
-    fracture-requires
+    part-count-then-write-end
+    count-then-write-requires
     (λ c. search needs)
     (λ c κs. search needs)
     (λ c. search needs)

@@ -11,7 +11,7 @@ use borrow.Author.Tests.{eqb-true, eq-eqb}
 use Rattle.plane.specs.declared.Point.{Point}
 use Rattle.plane.specs.declared.Rect.{Rect}
 use Rattle.plane.specs.Lists.{bit, sum, sumBelow}
-use Rattle.plane.specs.Words.{eqZ, flatRects, flat, areaOf, edgeOf}
+use Rattle.plane.specs.Words.{eqZ, rectSize, flatRects, flat, areaOf, edgeOf}
 use Rattle.plane.proofs.Bools.{clash}
 use Rattle.plane.proofs.Sums.{sum-length, count-sum, count-find, below-grows, below-has, below-list}
 use Rattle.plane.proofs.Places.{stretch-none}
@@ -48,7 +48,7 @@ pub record Making (qs : List Point) (writes : Bool) (work₀ rects₀ work rects
   pub counted : made ≡ length finished
   pub areas : area ≡ sum (byNumber qs areaOf) finished
   pub edges : edge ≡ sum (byNumber qs edgeOf) finished
-  pub room : writes ≡ true → 4 * length (ruleList qs) ≤ length rects₀
+  pub room : writes ≡ true → rectSize * length (ruleList qs) ≤ length rects₀
   pub output : Output writes qs finished rects₀ rects
 
 -- the sum by number over the whole list is the sum over it
@@ -75,7 +75,7 @@ starts-underway {qs} {work} r = record {
 }
 
 -- and none are given
-pub starts-making : {qs : List Point} {work rects : List ℤ} {n : ℕ} {writes : Bool} {z : Sweep} → Ready qs (length work) → length qs ≡ n → (writes ≡ true → 4 * length (ruleList qs) ≤ length rects) → z ≡ startOf (n / 2) → Making qs writes work rects work rects z 0 0 0
+pub starts-making : {qs : List Point} {work rects : List ℤ} {n : ℕ} {writes : Bool} {z : Sweep} → Ready qs (length work) → length qs ≡ n → (writes ≡ true → rectSize * length (ruleList qs) ≤ length rects) → z ≡ startOf (n / 2) → Making qs writes work rects work rects z 0 0 0
 unfolding sum sumBelow
 starts-making {qs} {work} {rects} {writes = writes} {z = z} r many room s =
     let at-start : z ≡ startOf (roomFor qs) = rw many s in

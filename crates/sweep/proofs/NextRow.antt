@@ -21,8 +21,8 @@ use Rattle.live.specs.Stands.{far, nextOn, stand, Apart, Sweeping}
 use Rattle.live.proofs.Shown.{point-far, live-wide, apart-left}
 use Rattle.live.proofs.Crossing.{turns, ends}
 use Rattle.sweep.specs.declared.Sweep.{Sweep}
-use Rattle.sweep.specs.Inner.{livesOf, liveAt, Turned, roomFor, restOf, passedIn, aheadIn, Underway, GoesOn, AllGiven}
-use Rattle.sweep.proofs.Lives.{length-lives, noLive, live-at}
+use Rattle.sweep.specs.Inner.{livesOf, zeroLive, liveAt, Turned, roomFor, restOf, passedIn, aheadIn, Underway, GoesOn, AllGiven}
+use Rattle.sweep.proofs.Lives.{length-lives}
 use Rattle.sweep.proofs.Kept.{kept-all, kept-further}
 use Rattle.sweep.proofs.Places.{nextOf}
 use Rattle.sweep.proofs.Going.{there-most, room-half}
@@ -51,7 +51,7 @@ module _ {qs : List Point} {work : List ℤ} {z : Sweep} (u : Underway qs work z
   still-left p (suc i) h (inr left) k m =
       let many : i < length l = omega (arith, passed-few) in
       let last : leZ (x .right) (p .x) ≡ true = let e : suc i - 1 ≡ i = omega arith in rw e at left in
-      all-last-added (λ j. leZ (j .right) (p .x) ≡ true) (take i l) x (λ j n. omega (order, apart-left x _ (take i l) rising j n, wide)) last k (subst (λ (r : List Live). In k r) (take-suc l i noLive many ∙ rw (live-at work i)) m)
+      all-last-added (λ j. leZ (j .right) (p .x) ≡ true) (take i l) x (λ j n. omega (order, apart-left x _ (take i l) rising j n, wide)) last k (subst (λ (r : List Live). In k r) (take-suc l i zeroLive many) m)
     where
       l : List Live
       l = livesOf work
@@ -65,15 +65,15 @@ module _ {qs : List Point} {work : List ℤ} {z : Sweep} (u : Underway qs work z
       few : i < length A
       few = omega (arith, length-take-le (z .passed) l passed-few)
 
-      at : getD A i noLive ≡ x
-      at = getD-take (z .passed) l i noLive (omega arith) ∙ live-at work i
+      at : getD A i zeroLive ≡ x
+      at = getD-take (z .passed) l i zeroLive (omega arith)
 
       wide : ltZ (x .left) (x .right) ≡ true
-      wide = live-wide (u .ready .points) (u .sweeping .given-few) (u .sweeping .passed-live x (subst (λ j. In j A) at (in-at A i noLive few)))
+      wide = live-wide (u .ready .points) (u .sweeping .given-few) (u .sweeping .passed-live x (subst (λ j. In j A) at (in-at A i zeroLive few)))
 
       rising : Apart (take i l ++ (x ∷ (drop (suc i) A ++ aheadIn qs work z)))
       rising =
-          let parts : A ≡ take i l ++ (x ∷ drop (suc i) A) = split-at A i noLive few ∙ rw (at, take-take i (z .passed) l (omega arith)) in
+          let parts : A ≡ take i l ++ (x ∷ drop (suc i) A) = split-at A i zeroLive few ∙ rw (at, take-take i (z .passed) l (omega arith)) in
           subst Apart (ap (λ (r : List Live). r ++ aheadIn qs work z) parts ∙ append-assoc (take i l) (x ∷ drop (suc i) A) (aheadIn qs work z)) (u .sweeping .apart)
 
   -- ---- The next row

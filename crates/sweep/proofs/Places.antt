@@ -1,6 +1,6 @@
 -- The live rectangles that a sweep has passed and those ahead, and the point that is next: what stands where, and what one put at a place
 -- changes.
-use mathlib.Core.Path.{_≡_, refl, sym, _∙_}
+use mathlib.Core.Path.{_≡_, refl, sym}
 use mathlib.Core.Logic.{_⊎_, inl, inr}
 use Prim.Native.Nat.{ℕ, _+_, _*_, _<_, _≤_}
 use native.Mathlib.Numerals.{add-one}
@@ -22,9 +22,9 @@ use Rattle.rule.specs.Table.{pointAt}
 use Rattle.live.specs.declared.Live.{Live}
 use Rattle.live.specs.Stands.{far, nextOn}
 use Rattle.sweep.specs.declared.Sweep.{Sweep}
-use Rattle.sweep.specs.Inner.{livesOf, liveAt, putLive, KeptPast, farPoint, farLive, nextPoint, nextLive, onRowOf, pointsAt}
-use Rattle.sweep.proofs.Lives.{length-lives, noLive, live-at, lives-put}
-use Rattle.sweep.proofs.Kept.{kept-put}
+use Rattle.sweep.specs.Inner.{liveSize, livesOf, zeroLive, liveAt, putLive, KeptPast, farPoint, farLive, nextPoint, nextLive, onRowOf, pointsAt}
+use Rattle.sweep.proofs.Lives.{length-lives, lives-put}
+use Rattle.sweep.proofs.Kept.{kept-live}
 
 -- ---- One put at a place
 
@@ -35,26 +35,26 @@ pub record LivePut (work : List ℤ) (i : ℕ) (k : Live) (many past : ℕ) (aft
   pub kept : KeptPast past work after
 
 -- it is so where it fits
-pub live-put : (work : List ℤ) (i : ℕ) (k : Live) (many past : ℕ) → i < many → 4 * many ≤ past → past ≤ length work → LivePut work i k many past (putLive work i k)
+pub live-put : (work : List ℤ) (i : ℕ) (k : Live) (many past : ℕ) → i < many → liveSize * many ≤ past → past ≤ length work → LivePut work i k many past (putLive work i k)
 live-put work i k many past h w f =
     let e = lives-put work i k (omega arith) in
     record {
       put-after = rw (e, add-one) (take-suc-set (livesOf work) i k (omega (arith, length-lives work)));
       later-stay = λ j l. rw e (stretch-set (livesOf work) i j many k l h);
-      kept = kept-put past work i _ (omega arith);
+      kept = kept-live past work i k (omega arith);
     }
 
 -- ---- The next one ahead
 
 -- there is none, or it is the first of those ahead
-pub meets : (work : List ℤ) (i many : ℕ) → 4 * many ≤ length work → ((nextLive work i many ≡ farLive) × (drop i (take many (livesOf work)) ≡ [])) ⊎ ((i < many) × (drop i (take many (livesOf work)) ≡ nextLive work i many ∷ drop (i + 1) (take many (livesOf work))))
+pub meets : (work : List ℤ) (i many : ℕ) → liveSize * many ≤ length work → ((nextLive work i many ≡ farLive) × (drop i (take many (livesOf work)) ≡ [])) ⊎ ((i < many) × (drop i (take many (livesOf work)) ≡ nextLive work i many ∷ drop (i + 1) (take many (livesOf work))))
 meets work i many w = go (ltb i many) refl
   where
     l : List Live
     l = livesOf work
 
     go : (t : Bool) → ltb i many ≡ t → let k = cond t (liveAt work i) farLive in ((k ≡ farLive) × (drop i (take many l) ≡ [])) ⊎ ((i < many) × (drop i (take many l) ≡ k ∷ drop (i + 1) (take many l)))
-    go true e = let h = ltb-true i many e in inr (h, stretch-next l i many noLive h (omega (arith, length-lives work)) ∙ rw (live-at work i))
+    go true e = let h = ltb-true i many e in inr (h, stretch-next l i many zeroLive h (omega (arith, length-lives work)))
     go false e = inl (refl, stretch-none l i many (ltb-false i many e))
 
 -- ---- The next point

@@ -11,10 +11,10 @@ use lib.Dec.{ltb}
 use Rattle.plane.specs.declared.Point.{Point}
 use Rattle.plane.specs.declared.Rect.{Rect}
 use Rattle.plane.specs.Lists.{bit, sum, sumBelow}
-use Rattle.plane.specs.Words.{eqZ, pointsOf, rectsOf, flatRects, rising}
+use Rattle.plane.specs.Words.{eqZ, pointsOf, rectSize, foursOf, flatRects, rising}
 use Rattle.rule.specs.declared.ForwardAnswer.{ForwardAnswer}
 use Rattle.rule.specs.Rule.{ruleList}
-use Rattle.rule.specs.Table.{Check, LENGTH, MANY, WORK, pointAt, rectAt, pointChecks, Accepted, accepted, verdict}
+use Rattle.rule.specs.Table.{Check, LENGTH, MANY, WORK, pointAt, pointChecks, Accepted, accepted, verdict}
 use Rattle.rule.specs.Answers.{forwardSays, written}
 use Rattle.checks.specs.Screens.{rowOrder}
 use Rattle.live.specs.declared.Live.{Live}
@@ -25,25 +25,33 @@ use Rattle.sweep.specs.declared.Move.the-variants.{Onward, Rectangle, Re
 
 -- ---- Arrays
 
--- a live rectangle of four numbers
-abbrev pub liveOf : Rect → Live
-liveOf r = record { left = r .x; right = r .y; row = r .w; place = r .h }
+-- an array with four numbers put from a place on
+abbrev pub putFour : List ℤ → (from : ℕ) → (p q r s : ℤ) → List ℤ
+putFour a from p q r s = set (set (set (set a from p) (from + 1) q) (from + 2) r) (from + 3) s
 
--- the live rectangles of an array, four numbers to each
-abbrev pub livesOf : List ℤ → List Live
-livesOf a = map liveOf (rectsOf a)
-
--- the live rectangle at a place
-abbrev pub liveAt : List ℤ → ℕ → Live
-liveAt a i = liveOf (rectAt (rectsOf a) i)
-
--- an array with four numbers put at place i
+-- an array with a rectangle put at place i
 abbrev pub putRect : List ℤ → ℕ → Rect → List ℤ
-putRect a i r = set (set (set (set a (4 * i) (r .x)) (4 * i + 1) (r .y)) (4 * i + 2) (r .w)) (4 * i + 3) (r .h)
+putRect a i r = putFour a (rectSize * i) (r .x) (r .y) (r .w) (r .h)
 
--- an array with a live rectangle put at place i
+-- how many numbers a live rectangle has in an array
+abbrev pub liveSize : ℕ
+liveSize = 4
+
+-- the live rectangles of an array
+abbrev pub livesOf : List ℤ → List Live
+livesOf a = foursOf (λ left right row place. record { left = left; right = right; row = row; place = place }) a
+
+-- zeros as one
+abbrev pub zeroLive : Live
+zeroLive = record { left = pos 0; right = pos 0; row = pos 0; place = pos 0 }
+
+-- the one at a place, zeros where there is none
+abbrev pub liveAt : List ℤ → ℕ → Live
+liveAt a i = getD (livesOf a) i zeroLive
+
+-- an array with one put at place i
 abbrev pub putLive : List ℤ → ℕ → Live → List ℤ
-putLive a i k = putRect a i (record { x = k .left; y = k .right; w = k .row; h = k .place })
+putLive a i k = putFour a (liveSize * i) (k .left) (k .right) (k .row) (k .place)
 
 -- past its first n numbers an array is as it was, and as long
 pub record KeptPast (n : ℕ) (before after : List ℤ) : Type 0 where
@@ -154,7 +162,7 @@ pub record Turned (p : Point) (z : Sweep) (before : List ℤ) (r : Sweep) (after
   pub still-passed : take (r .passed) (livesOf after) ≡ take (r .passed) (livesOf before)
   pub ahead-again : drop (r .ahead) (livesOf after) ≡ take back (drop (r .passed) (livesOf before)) ++ drop (z .ahead) (livesOf before)
   pub last-left : (r .passed ≡ 0) ⊎ (leZ (liveAt before (r .passed - 1) .right) (p .x) ≡ true)
-  pub kept-past : KeptPast (4 * z .ahead) before after
+  pub kept-past : KeptPast (liveSize * z .ahead) before after
 
 -- ---- A sweep of points
 

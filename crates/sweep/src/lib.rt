@@ -12,18 +12,19 @@ ghost use lib.ListN.{length};
 ghost use lib.IntN.{pos, _-ℤ_};
 ghost use lib.Signed.{ltZ, leZ};
 ghost use Prim.Native.Nat.{_+_, _*_, _<_, _≤_};
-ghost use Rattle.plane.specs.Words.{eqZ, pointsOf, flat, areaOf, edgeOf};
+ghost use Rattle.plane.specs.Words.{eqZ, pointsOf, rectSize, flat, areaOf, edgeOf};
 ghost use Rattle.rule.specs.Rule.{ruleList};
 ghost use Rattle.rule.specs.Table.{verdict, ForwardAccepted};
 ghost use Rattle.rule.specs.Answers.{forwardAnswer, forwardWork, forwardOut};
 ghost use Rattle.checks.specs.Screens.{screenOf};
 ghost use Rattle.live.specs.Stands.{far, number};
-ghost use Rattle.sweep.specs.Inner.{farPoint, farLive, liveAt, putLive, putRect, onRowOf, nextPoint, nextLive, nearer, cancelled, takenFrom, carrying, passing, closed, opening, newLive, endPut, endPutWork, cutTo, cutWork, atRow, Turned, endedBox, startOf, Underway, Advanced, zeroed, inputChecks, Ordered, Swept, pointsAt, Ready, StandFor};
+ghost use Rattle.sweep.specs.Inner.{farPoint, farLive, liveSize, liveAt, putLive, putRect, onRowOf, nextPoint, nextLive, nearer, cancelled, takenFrom, carrying, passing, closed, opening, newLive, endPut, endPutWork, cutTo, cutWork, atRow, Turned, endedBox, startOf, Underway, Advanced, zeroed, inputChecks, Ordered, Swept, pointsAt, Ready, StandFor};
 use checks::Screen;
 use checks::order_points;
 use live::Live;
 use places::point_at;
 use plane::Point;
+use plane::RECT_SIZE;
 use plane::Rect;
 use rule::DONE;
 use rule::DRAINED;
@@ -74,30 +75,33 @@ fn start(room: usize) -> Sweep
 
 // ---- Live rectangles in the working array
 
+// How many numbers one has there.
+const LIVE_SIZE: usize = 4;
+
 fn live_at(work: &[i32], i: usize) -> Live
-    requires { ⌜ 4 * i + 3 < length (now work) ⌝ }
+    requires { ⌜ liveSize * (i + 1) ≤ length (now work) ⌝ }
     ensures { λ r. ⌜ r ≡ liveAt (now (work .entry)) i ⌝ }
 {
     Live {
-        left: work[4 * i],
-        right: work[4 * i + 1],
-        row: work[4 * i + 2],
-        place: work[4 * i + 3],
+        left: work[LIVE_SIZE * i],
+        right: work[LIVE_SIZE * i + 1],
+        row: work[LIVE_SIZE * i + 2],
+        place: work[LIVE_SIZE * i + 3],
     }
 }
 
 fn put_live(work: &mut [i32], i: usize, k: Live)
-    requires { ⌜ 4 * i + 3 < length (now work) ⌝ }
+    requires { ⌜ liveSize * (i + 1) ≤ length (now work) ⌝ }
     ensures { λ r. ⌜ now (work .exit) ≡ putLive (now (work .entry)) i k ⌝ }
 {
     let left = k.left;
     let right = k.right;
     let row = k.row;
     let place = k.place;
-    work[4 * i] = left;
-    work[4 * i + 1] = right;
-    work[4 * i + 2] = row;
-    work[4 * i + 3] = place;
+    work[LIVE_SIZE * i] = left;
+    work[LIVE_SIZE * i + 1] = right;
+    work[LIVE_SIZE * i + 2] = row;
+    work[LIVE_SIZE * i + 3] = place;
 }
 
 // ---- What is next
@@ -131,7 +135,7 @@ fn next_point(points: &[i32], order: &[u16], i: usize) -> Point
 
 // The live rectangle at a place below `end`, and a far one where there is none.
 fn next_live(work: &[i32], i: usize, end: usize) -> Live
-    requires { ⌜ 4 * end ≤ length (now work) ⌝ }
+    requires { ⌜ liveSize * end ≤ length (now work) ⌝ }
     ensures { λ r. ⌜ r ≡ nextLive (now (work .entry)) i end ⌝ }
 {
     if i < end {
@@ -322,7 +326,7 @@ fn close_open(z: Sweep) -> Sweep
 
 // An end on the row: it opens a rectangle, or closes the one that is open.
 fn put_end(work: &mut [i32], z: Sweep, v: Point) -> Sweep
-    requires { ⌜ (z .given ≤ 16_777_216) × (z .passed < 4096) × (4 * z .passed + 3 < length (now work)) ⌝ }
+    requires { ⌜ (z .given ≤ 16_777_216) × (z .passed < 4096) × (liveSize * (z .passed + 1) ≤ length (now work)) ⌝ }
     ensures { λ r. ⌜ r ≡ endPut z v ⌝ }
     ensures { λ r. ⌜ now (work .exit) ≡ endPutWork (now (work .entry)) z v ⌝ }
 {
@@ -378,7 +382,7 @@ fn left_end(z: Sweep, k: Live) -> Point
 
 // The next one ahead ends. Its left end goes with a point or a carried end there, or is an end on the row.
 fn cut(work: &mut [i32], z: Sweep, t: Point, k: Live) -> Sweep
-    requires { ⌜ (z .next ≤ 4096) × (z .given ≤ 16_777_216) × (z .passed < 4096) × (z .ahead < 4096) × (4 * z .passed + 3 < length (now work)) ⌝ }
+    requires { ⌜ (z .next ≤ 4096) × (z .given ≤ 16_777_216) × (z .passed < 4096) × (z .ahead < 4096) × (liveSize * (z .passed + 1) ≤ length (now work)) ⌝ }
     ensures { λ r. ⌜ r ≡ cutTo z t k ⌝ }
     ensures { λ r. ⌜ now (work .exit) ≡ cutWork (now (work .entry)) z t k ⌝ }
 {
@@ -429,7 +433,7 @@ fn begin_row(z: Sweep, p: Point, passed: usize, ahead: usize) -> Sweep
 
 // Turns to the row of its first point: the live rectangles that end right of it are ahead again.
 fn turn(work: &mut [i32], z: Sweep, p: Point) -> Sweep
-    requires { ⌜ (z .passed ≤ z .ahead) × (4 * z .ahead ≤ length (now work)) ⌝ }
+    requires { ⌜ (z .passed ≤ z .ahead) × (liveSize * z .ahead ≤ length (now work)) ⌝ }
     ensures { λ r. ⌜ Turned p z (now (work .entry)) r (now (work .exit)) ⌝ }
 {
     let mut passed = z.passed;
@@ -492,17 +496,17 @@ fn advance(points: &[i32], order: &[u16], work: &mut [i32], z: Sweep) -> Move
 
 // Puts a rectangle at place i of the output.
 fn put_rect(out: &mut [i32], i: usize, r: Rect)
-    requires { ⌜ 4 * i + 3 < length (now out) ⌝ }
+    requires { ⌜ rectSize * (i + 1) ≤ length (now out) ⌝ }
     ensures { λ u. ⌜ now (out .exit) ≡ putRect (now (out .entry)) i r ⌝ }
 {
     let x = r.x;
     let y = r.y;
     let w = r.w;
     let h = r.h;
-    out[4 * i] = x;
-    out[4 * i + 1] = y;
-    out[4 * i + 2] = w;
-    out[4 * i + 3] = h;
+    out[RECT_SIZE * i] = x;
+    out[RECT_SIZE * i + 1] = y;
+    out[RECT_SIZE * i + 2] = w;
+    out[RECT_SIZE * i + 3] = h;
 }
 
 fn area_of(r: Rect) -> u64
@@ -546,7 +550,7 @@ fn sweep_all(
     writes: bool,
 ) -> ForwardAnswer
     requires { ⌜ Ready (pointsAt (now points) (now order)) (length (now work)) ⌝ }
-    requires { ⌜ (writes ≡ true → 4 * length (ruleList (pointsAt (now points) (now order))) ≤ length (now rects)) ⌝ }
+    requires { ⌜ (writes ≡ true → rectSize * length (ruleList (pointsAt (now points) (now order))) ≤ length (now rects)) ⌝ }
     ensures { λ r. ⌜ Swept (pointsAt (now (points .entry)) (now (order .entry))) writes (now (work .entry)) (now (rects .entry)) r (now (work .exit)) (now (rects .exit)) ⌝ }
 {
     let mut z = start(order.len() / 2);
@@ -609,7 +613,7 @@ fn count_then_write(
     work: &mut [i32],
     rects: &mut [i32],
 ) -> ForwardAnswer
-    requires { ⌜ ForwardAccepted (now points) (length (now work)) (4 * length (ruleList (pointsOf (now points)))) ⌝ }
+    requires { ⌜ ForwardAccepted (now points) (length (now work)) (rectSize * length (ruleList (pointsOf (now points)))) ⌝ }
     requires { ⌜ StandFor (now points) (length (now work)) (now order) ⌝ }
     ensures { λ r. ⌜ r ≡ forwardAnswer (now (points .entry)) (length (now (work .entry))) (length (now (rects .entry))) ⌝ }
     ensures { λ r. ⌜ now (work .exit) ≡ forwardWork (now (points .entry)) (now (work .entry)) (length (now (rects .entry))) ⌝ }
@@ -618,7 +622,7 @@ fn count_then_write(
     let n = order.len();
     let counted = sweep_all(points, order, work, rects, false);
     let needed = counted.count;
-    if rects.len() / 4 < needed {
+    if rects.len() / RECT_SIZE < needed {
         zero_start(work, 2 * n);
         return no_list(ROOM, needed as u64);
     }

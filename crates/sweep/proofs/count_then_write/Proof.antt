@@ -8,7 +8,7 @@ use lib.ListN.{length, length-map}
 use lib.IntN.{ℤ}
 use borrow.Author.Needs.{needs}
 use Rattle.plane.specs.declared.Rect.{Rect}
-use Rattle.plane.specs.Words.{pointsOf}
+use Rattle.plane.specs.Words.{pointsOf, rectSize}
 use Rattle.plane.proofs.Bools.{clash}
 use Rattle.rule.specs.Rule.{ruleList}
 use Rattle.rule.specs.Table.{pointAt}
@@ -63,7 +63,7 @@ returns c =
     let z = c .before .before in
     let d = z .before .before .before .before .before in
     let s = start-of d in
-    let l : length (s .args .rects .now) / 4 < length (rects s) = omega (arith, needed d, z .before .before .if1 .taken, same-rects d) in
+    let l : length (s .args .rects .now) / rectSize < length (rects s) = omega (arith, needed d, z .before .before .if1 .taken, same-rects d) in
     let v = forward-lacks-room (points s) (length (work s)) (length (s .args .rects .now)) (length (rects s)) .1 (s .pre .0, refl, l) in
     (rw (v, ← needed d) (c .no-list .ensures), (rw v (z .zero-start .ensures ∙ kept-drained (swept s) (many s) (d .sweep-all .ensures .kept)), rw v (d .sweep-all .ensures .output)))
 
@@ -71,7 +71,7 @@ abbrev counted : tie.Else1 → tie.After-sweep-all
 counted c = c .before .before .before
 
 -- the rectangles have room in the output
-has-room : (c : tie.Else1) → let s = start-of (counted c) in length (rects s) ≤ length (s .args .rects .now) / 4
+has-room : (c : tie.Else1) → let s = start-of (counted c) in length (rects s) ≤ length (s .args .rects .now) / rectSize
 has-room c = omega (arith, needed (counted c), c .if1 .left, same-rects (counted c))
 
 sweep-all-requires-2 : tie.Need-sweep-all-requires-2

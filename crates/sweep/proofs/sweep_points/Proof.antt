@@ -7,7 +7,7 @@ use mathlib.Core.Path.{_≡_, sym, _∙_}
 use lib.ListN.{length, take, length-take}
 use borrow.Author.Needs.{needs}
 use borrow.Author.Tests.{ne-eqb}
-use Rattle.plane.specs.Words.{pointsOf}
+use Rattle.plane.specs.Words.{pointsOf, rectSize}
 use Rattle.rule.specs.Rule.{ruleList}
 use Rattle.rule.specs.Table.{verdict, accepted, ForwardAccepted}
 use Rattle.rule.specs.Answers.{forwardAnswer, forwardWork, forwardOut}
@@ -26,7 +26,7 @@ clear m =
     screen-clear (verdict (inputChecks (s .args .points .now) (length (s .args .work .now)))) (sym (m .before .before .check-input .ensures .0) ∙ m .enum-told .given .1)
 
 -- so the points are accepted where the list has room
-ready : (m : tie.After-enum-told) → let s = m .before .before .before .before in ForwardAccepted (s .args .points .now) (length (s .args .work .now)) (4 * length (ruleList (pointsOf (s .args .points .now))))
+ready : (m : tie.After-enum-told) → let s = m .before .before .before .before in ForwardAccepted (s .args .points .now) (length (s .args .work .now)) (rectSize * length (ruleList (pointsOf (s .args .points .now))))
 ready m = let s = m .before .before .before .before in input-accepted (s .args .points .now) (length (s .args .work .now)) (clear m)
 
 -- and their places stand in order

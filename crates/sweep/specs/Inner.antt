@@ -88,6 +88,32 @@ onRowOf z p = cond (eqZ (p .y) (z .row)) p farPoint
 abbrev pub nearer : Sweep → Point → Point
 nearer z t = cond (ltZ (t .x) (z .carried)) t (record { x = z .carried; y = z .row })
 
+-- ---- Where a sweep stands, but for one thing
+
+-- past its next point
+abbrev pub pastPoint : Sweep → Sweep
+pastPoint z = record { next = z .next + 1; passed = z .passed; ahead = z .ahead; given = z .given; row = z .row; carried = z .carried; opened = z .opened }
+
+-- with so many live rectangles passed, and the first ahead at this place
+abbrev pub withStacks : Sweep → (passed ahead : ℕ) → Sweep
+withStacks z passed ahead = record { next = z .next; passed = passed; ahead = ahead; given = z .given; row = z .row; carried = z .carried; opened = z .opened }
+
+-- with so many rectangles begun
+abbrev pub withGiven : Sweep → ℕ → Sweep
+withGiven z given = record { next = z .next; passed = z .passed; ahead = z .ahead; given = given; row = z .row; carried = z .carried; opened = z .opened }
+
+-- on this row
+abbrev pub withRow : Sweep → ℤ → Sweep
+withRow z row = record { next = z .next; passed = z .passed; ahead = z .ahead; given = z .given; row = row; carried = z .carried; opened = z .opened }
+
+-- with this right end carried
+abbrev pub withCarried : Sweep → ℤ → Sweep
+withCarried z carried = record { next = z .next; passed = z .passed; ahead = z .ahead; given = z .given; row = z .row; carried = carried; opened = z .opened }
+
+-- with this left end open
+abbrev pub withOpened : Sweep → ℤ → Sweep
+withOpened z opened = record { next = z .next; passed = z .passed; ahead = z .ahead; given = z .given; row = z .row; carried = z .carried; opened = opened }
+
 -- ---- What the moves make of where the sweep stands
 
 -- before the first point
@@ -96,21 +122,19 @@ startOf room = record { next = 0; passed = 0; ahead = room; given = 0; row = neg
 
 -- without a point and the right end carried
 abbrev pub cancelled : Sweep → Sweep
-cancelled z = record { next = z .next + 1; passed = z .passed; ahead = z .ahead; given = z .given; row = z .row; carried = far; opened = z .opened }
+cancelled z = withCarried (pastPoint z) far
 
 -- without the nearer of a point and the right end carried
 abbrev pub takenFrom : Sweep → Point → Sweep
-takenFrom z t = cond (ltZ (t .x) (z .carried))
-    (record { next = z .next + 1; passed = z .passed; ahead = z .ahead; given = z .given; row = z .row; carried = z .carried; opened = z .opened })
-    (record { next = z .next; passed = z .passed; ahead = z .ahead; given = z .given; row = z .row; carried = far; opened = z .opened })
+takenFrom z t = cond (ltZ (t .x) (z .carried)) (pastPoint z) (withCarried z far)
 
 -- with an end that opens a rectangle
 abbrev pub opening : Sweep → Point → Sweep
-opening z v = record { next = z .next; passed = z .passed; ahead = z .ahead; given = z .given; row = z .row; carried = z .carried; opened = v .x }
+opening z v = withOpened z (v .x)
 
 -- with the open one closed
 abbrev pub closed : Sweep → Sweep
-closed z = record { next = z .next; passed = z .passed + 1; ahead = z .ahead; given = z .given + 1; row = z .row; carried = z .carried; opened = far }
+closed z = withGiven (withOpened (withStacks z (z .passed + 1) (z .ahead)) far) (z .given + 1)
 
 -- the rectangle from the open end to this one
 abbrev pub newLive : Sweep → Point → Live
@@ -126,11 +150,11 @@ endPutWork work z v = cond (eqZ (z .opened) far) work (putLive work (z .passed) 
 
 -- with the next one ahead passed
 abbrev pub passing : Sweep → Sweep
-passing z = record { next = z .next; passed = z .passed + 1; ahead = z .ahead + 1; given = z .given; row = z .row; carried = z .carried; opened = z .opened }
+passing z = withStacks z (z .passed + 1) (z .ahead + 1)
 
 -- with the next one ahead ended, and its right end carried
 abbrev pub carrying : Sweep → Live → Sweep
-carrying z k = record { next = z .next; passed = z .passed; ahead = z .ahead + 1; given = z .given; row = z .row; carried = k .right; opened = z .opened }
+carrying z k = withCarried (withStacks z (z .passed) (z .ahead + 1)) (k .right)
 
 -- its left end as an end on the row
 abbrev pub leftEnd : Sweep → Live → Point
@@ -150,7 +174,7 @@ endedBox z k = record { x = k .left; y = k .row; w = k .right -ℤ k .left; h = 
 
 -- on the row of a point
 abbrev pub atRow : Sweep → Point → (passed ahead : ℕ) → Sweep
-atRow z p passed ahead = record { next = z .next; passed = passed; ahead = ahead; given = z .given; row = p .y; carried = z .carried; opened = z .opened }
+atRow z p passed ahead = withRow (withStacks z passed ahead) (p .y)
 
 -- turned to the row of a point: as many as are ahead again are passed no more, they stand before those ahead, and the last one that is
 -- still passed is left of the point

@@ -225,48 +225,28 @@ fn is_passed_by(p: Point, k: Live) -> bool
 // ---- One end less
 
 // The point and the right end carried go.
-fn cancel(z: Sweep) -> Sweep
+fn cancel(mut z: Sweep) -> Sweep
     requires { ⌜ z .next ≤ 4096 ⌝ }
     ensures { λ r. ⌜ r ≡ cancelled z ⌝ }
 {
-    Sweep {
-        next: z.next + 1,
-        passed: z.passed,
-        ahead: z.ahead,
-        given: z.given,
-        row: z.row,
-        carried: FAR,
-        opened: z.opened,
-    }
+    z.next += 1;
+    z.carried = FAR;
+    z
 }
 
-fn after_point(z: Sweep) -> Sweep
+fn after_point(mut z: Sweep) -> Sweep
     requires { ⌜ z .next ≤ 4096 ⌝ }
     ensures { λ r. ⌜ r ≡ record { next = z .next + 1; passed = z .passed; ahead = z .ahead; given = z .given; row = z .row; carried = z .carried; opened = z .opened } ⌝ }
 {
-    Sweep {
-        next: z.next + 1,
-        passed: z.passed,
-        ahead: z.ahead,
-        given: z.given,
-        row: z.row,
-        carried: z.carried,
-        opened: z.opened,
-    }
+    z.next += 1;
+    z
 }
 
-fn without_carried(z: Sweep) -> Sweep
+fn without_carried(mut z: Sweep) -> Sweep
     ensures { λ r. ⌜ r ≡ record { next = z .next; passed = z .passed; ahead = z .ahead; given = z .given; row = z .row; carried = far; opened = z .opened } ⌝ }
 {
-    Sweep {
-        next: z.next,
-        passed: z.passed,
-        ahead: z.ahead,
-        given: z.given,
-        row: z.row,
-        carried: FAR,
-        opened: z.opened,
-    }
+    z.carried = FAR;
+    z
 }
 
 // The nearer of the point and the right end carried is taken.
@@ -282,18 +262,11 @@ fn taken(z: Sweep, t: Point) -> Sweep
 
 // ---- Rectangles that begin
 
-fn open_at(z: Sweep, v: Point) -> Sweep
+fn open_at(mut z: Sweep, v: Point) -> Sweep
     ensures { λ r. ⌜ r ≡ opening z v ⌝ }
 {
-    Sweep {
-        next: z.next,
-        passed: z.passed,
-        ahead: z.ahead,
-        given: z.given,
-        row: z.row,
-        carried: z.carried,
-        opened: v.x,
-    }
+    z.opened = v.x;
+    z
 }
 
 // The live rectangle from the end that is open to this one.
@@ -309,19 +282,14 @@ fn new_live(z: Sweep, v: Point) -> Live
     }
 }
 
-fn close_open(z: Sweep) -> Sweep
+fn close_open(mut z: Sweep) -> Sweep
     requires { ⌜ (z .given ≤ 16_777_216) × (z .passed < 4096) ⌝ }
     ensures { λ r. ⌜ r ≡ closed z ⌝ }
 {
-    Sweep {
-        next: z.next,
-        passed: z.passed + 1,
-        ahead: z.ahead,
-        given: z.given + 1,
-        row: z.row,
-        carried: z.carried,
-        opened: FAR,
-    }
+    z.passed += 1;
+    z.given += 1;
+    z.opened = FAR;
+    z
 }
 
 // An end on the row: it opens a rectangle, or closes the one that is open.
@@ -340,35 +308,23 @@ fn put_end(work: &mut [i32], z: Sweep, v: Point) -> Sweep
 // ---- Live rectangles that the sweep comes to
 
 // The next one ahead goes on.
-fn pass(z: Sweep) -> Sweep
+fn pass(mut z: Sweep) -> Sweep
     requires { ⌜ (z .passed < 4096) × (z .ahead < 4096) ⌝ }
     ensures { λ r. ⌜ r ≡ passing z ⌝ }
 {
-    Sweep {
-        next: z.next,
-        passed: z.passed + 1,
-        ahead: z.ahead + 1,
-        given: z.given,
-        row: z.row,
-        carried: z.carried,
-        opened: z.opened,
-    }
+    z.passed += 1;
+    z.ahead += 1;
+    z
 }
 
 // It ends, and its right end is carried.
-fn carry(z: Sweep, k: Live) -> Sweep
+fn carry(mut z: Sweep, k: Live) -> Sweep
     requires { ⌜ z .ahead < 4096 ⌝ }
     ensures { λ r. ⌜ r ≡ carrying z k ⌝ }
 {
-    Sweep {
-        next: z.next,
-        passed: z.passed,
-        ahead: z.ahead + 1,
-        given: z.given,
-        row: z.row,
-        carried: k.right,
-        opened: z.opened,
-    }
+    z.ahead += 1;
+    z.carried = k.right;
+    z
 }
 
 fn left_end(z: Sweep, k: Live) -> Point
@@ -417,18 +373,13 @@ fn place_in_list(k: Live) -> usize
 
 // ---- The next row
 
-fn begin_row(z: Sweep, p: Point, passed: usize, ahead: usize) -> Sweep
+fn begin_row(mut z: Sweep, p: Point, passed: usize, ahead: usize) -> Sweep
     ensures { λ r. ⌜ r ≡ atRow z p passed ahead ⌝ }
 {
-    Sweep {
-        next: z.next,
-        passed: passed,
-        ahead: ahead,
-        given: z.given,
-        row: p.y,
-        carried: z.carried,
-        opened: z.opened,
-    }
+    z.passed = passed;
+    z.ahead = ahead;
+    z.row = p.y;
+    z
 }
 
 // Turns to the row of its first point: the live rectangles that end right of it are ahead again.

@@ -20,11 +20,11 @@ use Rattle.plane.proofs.Rising.{rising-least}
 use Rattle.rule.specs.Rule.{leftOf, ruleList}
 use Rattle.rule.specs.Table.{Accepted}
 use Rattle.live.specs.declared.Live.{Live}
-use Rattle.live.specs.Stands.{after, number, endOf, IsLive, Apart, far, Stand, stand, Before, waiting, nextOn, Sweeping}
+use Rattle.live.specs.Stands.{afterSteps, number, endOf, IsLive, Apart, far, Stand, stand, Before, waiting, nextOn, Sweeping}
 use Rattle.live.proofs.Numbered.{after-accepted, all-made, top-on-row}
 use Rattle.live.proofs.Columns.{is-left, none-left}
 use Rattle.live.proofs.Steady.{steady-over}
-use Rattle.live.proofs.Shown.{odd-far, odd-waiting, odd-held, waiting-none-left, live-listed, odd-tops, odd-tops-last, tops-even, apart-left, apart-right, apart-without, next-far, next-first, next-odd, shows-rest}
+use Rattle.live.proofs.Shown.{odd-far, odd-waiting, odd-waiting-points, waiting-none-left, live-listed, odd-tops, odd-tops-last, tops-even, apart-left, apart-right, apart-without, next-far, next-first, next-odd, shows-rest}
 use Rattle.live.proofs.Moves.{Fewer, all-stay, one-goes}
 use Rattle.live.proofs.Width.{leftHere, sides, even-below, goes-on-over}
 
@@ -129,7 +129,7 @@ module _ {ps : List Point} (acc : Accepted ps) where
     rest-range = λ q m. w .rest-range q (few .still-of q m);
     rest-from = from;
     rest-all = λ q m above-row. few .still-all q (w .rest-all q m above-row) above-row;
-    shown = λ f. w .shown f ∙ rw (odd-tops f ps k B, e, odd-held f c o far row, odd-held f (k .right) o h row, odd-far f row, odd-waiting f (k .right) row (let s = narrow in omega order)) (trade _ _ _ _ _ _ _ _ _ (left-end f));
+    shown = λ f. w .shown f ∙ rw (odd-tops f ps k B, e, odd-waiting-points f c o far row, odd-waiting-points f (k .right) o h row, odd-far f row, odd-waiting f (k .right) row (let s = narrow in omega order)) (trade _ _ _ _ _ _ _ _ _ (left-end f));
     begun = w .begun;
     given-few = w .given-few;
     passed-live = w .passed-live;
@@ -208,8 +208,8 @@ module _ {ps : List Point} (acc : Accepted ps) where
       go true e = eqZ-is o far e
       go false e =
           let come : odd f rest ≡ false = odd-none f rest (λ q m. let h = over q m in omega order) in
-          let even : odd f (after ps g) ≡ false = after-accepted ps acc g .rows row in
-          let shows-one : odd f (after ps g) ≡ true = w .shown f ∙ rw (come, tops-even ps row A, tops-even ps row B, odd-held f far o far row, odd-far f row, odd-waiting f o row e, eqZ-refl row) (simp (false-xor, xor-false)) in
+          let even : odd f (afterSteps ps g) ≡ false = after-accepted ps acc g .rows row in
+          let shows-one : odd f (afterSteps ps g) ≡ true = w .shown f ∙ rw (come, tops-even ps row A, tops-even ps row B, odd-waiting-points f far o far row, odd-far f row, odd-waiting f o row e, eqZ-refl row) (simp (false-xor, xor-false)) in
           clash shows-one even
 
   -- some ahead, all of them left of what is to come on the row, are passed
@@ -245,7 +245,7 @@ module _ {ps : List Point} (acc : Accepted ps) where
     rest-range = w .rest-range;
     rest-from = from;
     rest-all = λ q m h. w .rest-all q m (omega order);
-    shown = λ f. w .shown f ∙ rw (odd-held f far far far row, odd-held f far far far (p .y), odd-far f row, odd-far f (p .y)) (ap (xor (odd f (p ∷ rest))) (xor-left-comm _ _ _));
+    shown = λ f. w .shown f ∙ rw (odd-waiting-points f far far far row, odd-waiting-points f far far far (p .y), odd-far f row, odd-far f (p .y)) (ap (xor (odd f (p ∷ rest))) (xor-left-comm _ _ _));
     begun = λ i h. omega (order, w .begun i h);
     given-few = w .given-few;
     passed-live = λ k m. absurd (not-nil m);
@@ -293,8 +293,8 @@ module _ {ps : List Point} (acc : Accepted ps) where
   none-passed (k ∷ A) w = absurd (not-nil (end-to-come w k (head refl) .1))
 
   -- and where none is live either, no point is left
-  none-left-over : {row : ℤ} {g : ℕ} → Sweeping ps (stand [] row far far far g [] []) → after ps g ≡ []
-  none-left-over {row} {g} w = even-none (after ps g) (after-accepted ps acc g .once) (λ f. w .shown f ∙ shows-rest f ps [] row g ∙ odd-none-of f)
+  none-left-over : {row : ℤ} {g : ℕ} → Sweeping ps (stand [] row far far far g [] []) → afterSteps ps g ≡ []
+  none-left-over {row} {g} w = even-none (afterSteps ps g) (after-accepted ps acc g .once) (λ f. w .shown f ∙ shows-rest f ps [] row g ∙ odd-none-of f)
 
   -- with no point to come none is live, and the list is whole
   pub ends : {row : ℤ} {o : ℤ} {g : ℕ} {A : List Live} {B : List Live} → Sweeping ps (stand [] row far o far g A B) → (o ≡ far) × (A ++ B ≡ []) × (g ≡ length (ruleList ps))

@@ -6,7 +6,7 @@ use mathlib.Core.Path.{_≡_, refl, sym, ap, _∙_}
 use mathlib.Core.Bool.{Bool, true, false, xor}
 use mathlib.Core.List.{List, [], _∷_, _++_, List·Memᴰ as In, List·Memᴰ·head as head, List·Memᴰ·tail as tail, List·Memᴰ·not-nil as not-nil}
 use lib.ListN.{length}
-use lib.IntN.{ℤ, pos, negsuc}
+use lib.IntN.{ℤ, pos}
 use lib.Signed.{leZ, ltZ}
 use Rattle.plane.specs.declared.Point.{Point}
 use Rattle.plane.specs.Lists.{odd}
@@ -19,14 +19,14 @@ use Rattle.plane.proofs.Rising.{rising-rest, rising-along}
 use Rattle.rule.specs.Rule.{leftAfter, ruleList}
 use Rattle.rule.specs.Table.{Accepted}
 use Rattle.live.specs.declared.Live.{Live}
-use Rattle.live.specs.Stands.{after, rectNo, endOf, IsLive, none-live, far, Stand, stand, shows, Before, nextOn, Sweeping}
+use Rattle.live.specs.Stands.{afterSteps, rectNo, endOf, IsLive, none-live, far, firstRow, Stand, stand, shows, Before, nextOn, Sweeping}
 use Rattle.live.proofs.NextRect.{Begins, steps-past, hand-near, begins}
 use Rattle.live.proofs.Shown.{odd-far, odd-waiting, odd-taken, live-far, odd-tops-last, apart-between, next-near, next-first, shows-parts, shows-rest}
 
 -- ---- The start
 
 -- a number in range is above a sweep's first row
-from-below : (z : ℤ) → inRange z ≡ true → leZ (negsuc 1_999_999_999) z ≡ true
+from-below : (z : ℤ) → inRange z ≡ true → leZ firstRow z ≡ true
 from-below z e = let h = range-up z e in omega (order, neg-up 1_999_999_999)
 
 -- ---- Points to come
@@ -101,14 +101,14 @@ lower-go hm om h o r a b c = simp (xor-assoc, xor-left-comm, xor-comm, xor-back,
 
 module _ {ps : List Point} (acc : Accepted ps) where
   -- a sweep of points in order starts below all rows
-  pub starts : rising ps ≡ true → Sweeping ps (stand ps (negsuc 1_999_999_999) far far far 0 [] [])
+  pub starts : rising ps ≡ true → Sweeping ps (stand ps firstRow far far far 0 [] [])
   unfolding leftAfter pointInRange
   starts in-order = record {
     rest-rising = in-order;
     rest-range = acc .range;
     rest-from = λ q m. from-below (q .y) (and-parts (inRange (q .x)) (inRange (q .y)) (acc .range q m) .1);
     rest-all = λ q m h. m;
-    shown = λ f. sym (shows-rest f ps ps (negsuc 1_999_999_999) 0);
+    shown = λ f. sym (shows-rest f ps ps firstRow 0);
     begun = λ i h. absurd (omega arith);
     given-few = omega arith;
     passed-live = λ k m. absurd (not-nil m);
@@ -259,7 +259,7 @@ module _ {ps : List Point} (acc : Accepted ps) where
       right-near : (k : Live) → In k (A ++ (new ∷ [])) → leZ (k .right) far ≡ true
       right-near = each (λ k. leZ (k .right) far ≡ true) (λ k m. let l = live-far acc (w .given-few) (w .passed-live k m) in omega order) (let l = hand-near acc w d in omega order)
 
-      as-shown : (f : Point → Bool) → odd f (after ps (g + 1)) ≡ shows ps (stand rest row c far far (g + 1) (A ++ (new ∷ [])) B) f
+      as-shown : (f : Point → Bool) → odd f (afterSteps ps (g + 1)) ≡ shows ps (stand rest row c far far (g + 1) (A ++ (new ∷ [])) B) f
       as-shown f =
           b .odd-next f
           ∙ rw (w .shown f, shows-parts f ps rest row c o h g A B, odd-waiting f o row e, odd-waiting f h row d, odd-far f row, odd-tops-last f ps A new) (lower-go _ _ _ _ _ _ _ _)

@@ -25,11 +25,11 @@ use Rattle.live.proofs.Numbered.{rect-no-solid}
 use Rattle.live.proofs.Shown.{live-wide, live-far}
 use Rattle.live.proofs.Crossing.{carried-far, cuts, cut-at-carried, cut-at-point, cut-elsewhere}
 use Rattle.sweep.specs.declared.Sweep.{Sweep}
-use Rattle.sweep.specs.Inner.{nearer, takenFrom, carrying, leftEnd, endPut, endPutWork, cutTo, cutWork, endedBox, restOf, passedIn, Underway, toCome, liveSum, Gives}
+use Rattle.sweep.specs.Inner.{carriedPoint, nearer, afterPoint, withCarried, takenFrom, carrying, leftEnd, endPut, endPutWork, cutTo, cutWork, endedBox, restOf, passedIn, Underway, toCome, liveSum, Gives}
 use Rattle.sweep.proofs.Kept.{kept-all}
 use Rattle.sweep.proofs.Places.{first-on-row}
 use Rattle.sweep.proofs.Going.{there-one, there-none, there-most, put-ends}
-use Rattle.sweep.proofs.Taking.{afterPoint, withoutCarried, carriedPoint, point-less}
+use Rattle.sweep.proofs.Taking.{point-less}
 use Rattle.sweep.proofs.Meeting.{Comes, nearer-least, nearer-one, others, here, stands, is-live}
 
 -- ---- The rectangle of one that ends
@@ -120,7 +120,7 @@ module _ {qs : List Point} {work : List ℤ} {z : Sweep} {t : Point} {k : Live} 
           }
 
   -- or with the right end carried there before
-  cut-carried : eqZ (z .carried) (k .left) ≡ true → Cut (carrying (withoutCarried z) k) far
+  cut-carried : eqZ (z .carried) (k .left) ≡ true → Cut (carrying (withCarried z far) k) far
   cut-carried same =
       let i = here c e .0 in
       let fit = u .passed-within in
@@ -182,7 +182,7 @@ module _ {qs : List Point} {work : List ℤ} {z : Sweep} {t : Point} {k : Live} 
   pub gives-cut : Gives qs z work (endedBox z k) (number k) (cutTo z t k) (cutWork work z t k)
   gives-cut = go (eqZ (nearer z t .x) (k .left)) refl
     where
-      at-left : (b : Bool) → ltZ (t .x) (z .carried) ≡ b → eqZ (cond b t (carriedPoint z) .x) (k .left) ≡ true → Gives qs z work (endedBox z k) (number k) (carrying (cond b (afterPoint z) (withoutCarried z)) k) work
+      at-left : (b : Bool) → ltZ (t .x) (z .carried) ≡ b → eqZ (cond b t (carriedPoint z) .x) (k .left) ≡ true → Gives qs z work (endedBox z k) (number k) (carrying (cond b (afterPoint z) (withCarried z far)) k) work
       at-left true f d = given (cut-point f d)
       at-left false f d = given (cut-carried d)
 

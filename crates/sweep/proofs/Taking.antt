@@ -17,24 +17,12 @@ use Rattle.live.specs.Stands.{far, nextOn, stand, Sweeping}
 use Rattle.live.proofs.Shown.{next-near}
 use Rattle.live.proofs.Moves.{cancels, takes-point, takes-carried}
 use Rattle.sweep.specs.declared.Sweep.{Sweep}
-use Rattle.sweep.specs.Inner.{nearer, cancelled, takenFrom, restOf, passedIn, aheadIn, Underway, toCome, liveSum, GoesOn}
+use Rattle.sweep.specs.Inner.{carriedPoint, nearer, afterPoint, withCarried, cancelled, takenFrom, restOf, passedIn, aheadIn, Underway, toCome, liveSum, GoesOn}
 use Rattle.sweep.proofs.Kept.{kept-all}
 use Rattle.sweep.proofs.Places.{first-on-row}
 use Rattle.sweep.proofs.Going.{there-one, there-none, there-most}
 
 -- ---- Where a sweep is then
-
--- without the next point
-abbrev pub afterPoint : Sweep → Sweep
-afterPoint z = record { next = z .next + 1; passed = z .passed; ahead = z .ahead; given = z .given; row = z .row; carried = z .carried; opened = z .opened }
-
--- without the right end carried
-abbrev pub withoutCarried : Sweep → Sweep
-withoutCarried z = record { next = z .next; passed = z .passed; ahead = z .ahead; given = z .given; row = z .row; carried = far; opened = z .opened }
-
--- the right end carried as a point
-abbrev pub carriedPoint : Sweep → Point
-carriedPoint z = record { x = z .carried; y = z .row }
 
 -- the live rectangles ahead stay where they are
 pub taken-ahead : (z : Sweep) (t : Point) → takenFrom z t .ahead ≡ z .ahead
@@ -119,7 +107,7 @@ module _ {qs : List Point} {work : List ℤ} {z : Sweep} (u : Underway qs work z
           }
 
   -- or the right end carried
-  takes-end : (t : Point) → t .x ≡ nextOn (z .row) (restOf qs z) → eqZ (t .x) (z .carried) ≡ false → ltZ (t .x) (z .carried) ≡ false → ((k : Live) → In k (aheadIn qs work z) → ltZ (z .carried) (k .left) ≡ true) → Taken (withoutCarried z) (z .carried)
+  takes-end : (t : Point) → t .x ≡ nextOn (z .row) (restOf qs z) → eqZ (t .x) (z .carried) ≡ false → ltZ (t .x) (z .carried) ≡ false → ((k : Live) → In k (aheadIn qs work z) → ltZ (z .carried) (k .left) ≡ true) → Taken (withCarried z far) (z .carried)
   takes-end t at other first left =
       let n = next-near (z .row) (restOf qs z) (u .sweeping .rest-range) in
       let here : eqZ (z .carried) far ≡ false = omega order in
@@ -145,6 +133,6 @@ module _ {qs : List Point} {work : List ℤ} {z : Sweep} (u : Underway qs work z
   pub takes : (t : Point) → t .x ≡ nextOn (z .row) (restOf qs z) → eqZ (t .x) (z .carried) ≡ false → ((k : Live) → In k (aheadIn qs work z) → ltZ (nearer z t .x) (k .left) ≡ true) → Taken (takenFrom z t) (nearer z t .x)
   takes t at other free = go (ltZ (t .x) (z .carried)) refl free
     where
-      go : (b : Bool) → ltZ (t .x) (z .carried) ≡ b → ((k : Live) → In k (aheadIn qs work z) → ltZ (cond b t (carriedPoint z) .x) (k .left) ≡ true) → Taken (cond b (afterPoint z) (withoutCarried z)) (cond b t (carriedPoint z) .x)
+      go : (b : Bool) → ltZ (t .x) (z .carried) ≡ b → ((k : Live) → In k (aheadIn qs work z) → ltZ (cond b t (carriedPoint z) .x) (k .left) ≡ true) → Taken (cond b (afterPoint z) (withCarried z far)) (cond b t (carriedPoint z) .x)
       go true e left = takes-next t at e left
       go false e left = takes-end t at other e left

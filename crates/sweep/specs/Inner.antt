@@ -5,7 +5,7 @@ use mathlib.Core.Logic.{_⊎_}
 use mathlib.Core.Bool.{Bool, true, not, cond}
 use mathlib.Core.List.{List, [], _∷_, _++_, map}
 use lib.ListN.{length, getD, take, drop, set, replicate}
-use lib.IntN.{ℤ, pos, negsuc, _-ℤ_}
+use lib.IntN.{ℤ, pos, _-ℤ_}
 use lib.Signed.{leZ, ltZ}
 use lib.Dec.{ltb}
 use Rattle.plane.specs.declared.Point.{Point}
@@ -18,7 +18,7 @@ use Rattle.rule.specs.Table.{Check, LENGTH, MANY, WORK, pointAt, pointChecks, A
 use Rattle.rule.specs.Answers.{forwardSays, written}
 use Rattle.checks.specs.Screens.{rowOrder}
 use Rattle.live.specs.declared.Live.{Live}
-use Rattle.live.specs.Stands.{far, number, rectNo, stand, nextOn, Stand, Sweeping}
+use Rattle.live.specs.Stands.{far, firstRow, number, rectNo, stand, nextOn, Stand, Sweeping}
 use Rattle.sweep.specs.declared.Sweep.{Sweep}
 use Rattle.sweep.specs.declared.Move.{Move}
 use Rattle.sweep.specs.declared.Move.the-variants.{Onward, Rectangle, Refused}
@@ -84,15 +84,19 @@ nextLive work i end = cond (ltb i end) (liveAt work i) farLive
 abbrev pub onRowOf : Sweep → Point → Point
 onRowOf z p = cond (eqZ (p .y) (z .row)) p farPoint
 
+-- the right end carried
+abbrev pub carriedPoint : Sweep → Point
+carriedPoint z = record { x = z .carried; y = z .row }
+
 -- the nearer of a point and the right end carried
 abbrev pub nearer : Sweep → Point → Point
-nearer z t = cond (ltZ (t .x) (z .carried)) t (record { x = z .carried; y = z .row })
+nearer z t = cond (ltZ (t .x) (z .carried)) t (carriedPoint z)
 
 -- ---- Where a sweep stands, but for one thing
 
--- past its next point
-abbrev pub pastPoint : Sweep → Sweep
-pastPoint z = record { next = z .next + 1; passed = z .passed; ahead = z .ahead; given = z .given; row = z .row; carried = z .carried; opened = z .opened }
+-- after its next point
+abbrev pub afterPoint : Sweep → Sweep
+afterPoint z = record { next = z .next + 1; passed = z .passed; ahead = z .ahead; given = z .given; row = z .row; carried = z .carried; opened = z .opened }
 
 -- with so many live rectangles passed, and the first ahead at this place
 abbrev pub withStacks : Sweep → (passed ahead : ℕ) → Sweep
@@ -118,15 +122,15 @@ withOpened z opened = record { next = z .next; passed = z .passed; ahead = z .ah
 
 -- before the first point
 abbrev pub startOf : (room : ℕ) → Sweep
-startOf room = record { next = 0; passed = 0; ahead = room; given = 0; row = negsuc 1_999_999_999; carried = far; opened = far }
+startOf room = record { next = 0; passed = 0; ahead = room; given = 0; row = firstRow; carried = far; opened = far }
 
 -- without a point and the right end carried
 abbrev pub cancelled : Sweep → Sweep
-cancelled z = withCarried (pastPoint z) far
+cancelled z = withCarried (afterPoint z) far
 
 -- without the nearer of a point and the right end carried
 abbrev pub takenFrom : Sweep → Point → Sweep
-takenFrom z t = cond (ltZ (t .x) (z .carried)) (pastPoint z) (withCarried z far)
+takenFrom z t = cond (ltZ (t .x) (z .carried)) (afterPoint z) (withCarried z far)
 
 -- with an end that opens a rectangle
 abbrev pub opening : Sweep → Point → Sweep

@@ -18,7 +18,9 @@ ghost use Rattle.rule.specs.Table.{verdict, ForwardAccepted};
 ghost use Rattle.rule.specs.Answers.{forwardAnswer, forwardWork, forwardOut};
 ghost use Rattle.checks.specs.Screens.{screenOf};
 ghost use Rattle.live.specs.Stands.{far, number};
-ghost use Rattle.sweep.specs.Inner.{farPoint, farLive, liveSize, liveAt, putLive, putRect, onRowOf, nextPoint, nextLive, nearer, cancelled, takenFrom, carrying, passing, closed, opening, newLive, endPut, endPutWork, cutTo, cutWork, atRow, Turned, endedBox, startOf, Underway, Advanced, zeroed, inputChecks, Ordered, Swept, pointsAt, Ready, StandFor};
+ghost use Rattle.sweep.specs.Inner.{putRect, liveSize, liveAt, putLive, zeroed, farPoint, farLive, nextPoint, nextLive, onRowOf, carriedPoint, nearer};
+ghost use Rattle.sweep.specs.Inner.{afterPoint, withCarried, startOf, cancelled, takenFrom, opening, closed, newLive, endPut, endPutWork, passing, carrying, leftEnd, cutTo, cutWork};
+ghost use Rattle.sweep.specs.Inner.{endedBox, atRow, Turned, pointsAt, Ready, Underway, Advanced, Swept, inputChecks, Ordered, StandFor};
 use checks::Screen;
 use checks::order_points;
 use live::Live;
@@ -168,7 +170,7 @@ fn is_carried(z: Sweep, t: Point) -> bool
 }
 
 fn carried_point(z: Sweep) -> Point
-    ensures { λ r. ⌜ r ≡ record { x = z .carried; y = z .row } ⌝ }
+    ensures { λ r. ⌜ r ≡ carriedPoint z ⌝ }
 {
     Point {
         x: z.carried,
@@ -236,14 +238,14 @@ fn cancel(mut z: Sweep) -> Sweep
 
 fn after_point(mut z: Sweep) -> Sweep
     requires { ⌜ z .next ≤ 4096 ⌝ }
-    ensures { λ r. ⌜ r ≡ record { next = z .next + 1; passed = z .passed; ahead = z .ahead; given = z .given; row = z .row; carried = z .carried; opened = z .opened } ⌝ }
+    ensures { λ r. ⌜ r ≡ afterPoint z ⌝ }
 {
     z.next += 1;
     z
 }
 
 fn without_carried(mut z: Sweep) -> Sweep
-    ensures { λ r. ⌜ r ≡ record { next = z .next; passed = z .passed; ahead = z .ahead; given = z .given; row = z .row; carried = far; opened = z .opened } ⌝ }
+    ensures { λ r. ⌜ r ≡ withCarried z far ⌝ }
 {
     z.carried = FAR;
     z
@@ -328,7 +330,7 @@ fn carry(mut z: Sweep, k: Live) -> Sweep
 }
 
 fn left_end(z: Sweep, k: Live) -> Point
-    ensures { λ r. ⌜ r ≡ record { x = k .left; y = z .row } ⌝ }
+    ensures { λ r. ⌜ r ≡ leftEnd z k ⌝ }
 {
     Point {
         x: k.left,

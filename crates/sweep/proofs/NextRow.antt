@@ -134,27 +134,39 @@ module _ {qs : List Point} {work : List ℤ} {z : Sweep} (u : Underway qs work z
       let d = ends (u .ready .points) w in
       record { kept = kept-all; none-live = d .1; all-begun = d .2 }
 
-  -- ---- Nothing is to come on the row
+-- ---- Nothing is to come on the row
 
-  module _ (p t : Point) (first : p ≡ nextOf (restOf qs z)) (at : t .x ≡ nextOn (z .row) (restOf qs z)) (same : eqZ (t .x) (z .carried) ≡ true) (none : eqZ (t .x) far ≡ true) where
-    -- where there is a next point, the sweep turns to its row
-    pub turns-on : eqZ (p .x) far ≡ false → {r : Sweep} {after : List ℤ} → Turned p z work r after → GoesOn qs z work r after
-    turns-on some {r} {after} turned = go (restOf qs z) refl
-      where
-        go : (rest : List Point) → restOf qs z ≡ rest → GoesOn qs z work r after
-        go [] e = let d : p .x ≡ far = ap (λ (q : Point). q .x) (first ∙ ap nextOf e) in absurd (omega order)
-        go (q ∷ later) e =
-            let d : p ≡ q = first ∙ ap nextOf e in
-            let off : eqZ (p .y) (z .row) ≡ false = by-no (eqZ (p .y) (z .row)) (λ f. let n : t .x ≡ p .x = at ∙ rw (e, ← d, f) in absurd (omega order)) in
-            goes-turned p later (e ∙ ap (λ (h : Point). h ∷ later) (sym d)) off (omega order) turned
+-- a sweep under way, with the next point p and t that of the row, has neither t nor a right end to put
+pub record RowDone (qs : List Point) (work : List ℤ) (z : Sweep) (p t : Point) : Type 0 where
+  pub underway : Underway qs work z far
+  pub next-is : p ≡ nextOf (restOf qs z)
+  pub at-next : t .x ≡ nextOn (z .row) (restOf qs z)
+  pub none-waits : eqZ (t .x) (z .carried) ≡ true
+  pub none-there : eqZ (t .x) far ≡ true
 
-    -- where there is none, it ends
-    pub stops : eqZ (p .x) far ≡ true → AllGiven qs z work work
-    stops gone = go (restOf qs z) refl
-      where
-        go : (rest : List Point) → restOf qs z ≡ rest → AllGiven qs z work work
-        go [] e = goes-no-further e (omega order)
-        go (q ∷ later) e =
-            let d : p .x ≡ q .x = ap (λ (h : Point). h .x) (first ∙ ap nextOf e) in
-            let l = point-far q (u .sweeping .rest-range q (subst (λ (rest : List Point). In q rest) (sym e) (head refl))) in
-            absurd (omega order)
+module _ {qs : List Point} {work : List ℤ} {z : Sweep} {p t : Point} (d : RowDone qs work z p t) where
+  -- none is carried
+  none : eqZ (z .carried) far ≡ true
+  none = let same = d .none-waits in let far-off = d .none-there in omega order
+
+  -- where there is a next point, the sweep turns to its row
+  pub turns-on : eqZ (p .x) far ≡ false → {r : Sweep} {after : List ℤ} → Turned p z work r after → GoesOn qs z work r after
+  turns-on some {r} {after} turned = go (restOf qs z) refl
+    where
+      go : (rest : List Point) → restOf qs z ≡ rest → GoesOn qs z work r after
+      go [] e = let f : p .x ≡ far = ap (λ (q : Point). q .x) (d .next-is ∙ ap nextOf e) in absurd (omega order)
+      go (q ∷ later) e =
+          let f : p ≡ q = d .next-is ∙ ap nextOf e in
+          let off : eqZ (p .y) (z .row) ≡ false = by-no (eqZ (p .y) (z .row)) (λ on. let n : t .x ≡ p .x = d .at-next ∙ rw (e, ← f, on) in let gone = d .none-there in absurd (omega order)) in
+          goes-turned (d .underway) p later (e ∙ ap (λ (h : Point). h ∷ later) (sym f)) off none turned
+
+  -- where there is none, it ends
+  pub stops : eqZ (p .x) far ≡ true → AllGiven qs z work work
+  stops gone = go (restOf qs z) refl
+    where
+      go : (rest : List Point) → restOf qs z ≡ rest → AllGiven qs z work work
+      go [] e = goes-no-further (d .underway) e none
+      go (q ∷ later) e =
+          let f : p .x ≡ q .x = ap (λ (h : Point). h .x) (d .next-is ∙ ap nextOf e) in
+          let l = point-far q (d .underway .sweeping .rest-range q (subst (λ (rest : List Point). In q rest) (sym e) (head refl))) in
+          absurd (omega order)

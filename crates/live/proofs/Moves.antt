@@ -62,7 +62,7 @@ record Ordered (s : Stand) : Type 0 where
   carried-before : eqZ (s .carried) far ≡ false → (k : Live) → In k (s .ahead) → leZ (s .carried) (k .left) ≡ true
 
 -- a move that only takes points, or changes which of them wait
-moves : {ps rest rest′ : List Point} {row c o h c′ o′ h′ : ℤ} {g : ℕ} {A B : List Live} → Sweeping ps (stand rest row c o h g A B) → Fewer row rest rest′ → ((f : Point → Bool) → shows ps (stand rest row c o h g A B) f ≡ shows ps (stand rest′ row c′ o′ h′ g A B) f) → Ordered (stand rest′ row c′ o′ h′ g A B) → Sweeping ps (stand rest′ row c′ o′ h′ g A B)
+moves : {ps rest rest′ : List Point} {row c o h c′ o′ h′ : ℤ} {g : ℕ} {A B : List Live} → let s = stand rest row c o h g A B in let t = stand rest′ row c′ o′ h′ g A B in Sweeping ps s → Fewer row rest rest′ → ((f : Point → Bool) → shows ps s f ≡ shows ps t f) → Ordered t → Sweeping ps t
 moves w few as-shown waits = record {
   rest-rising = few .still-rising;
   rest-range = λ q m. w .rest-range q (few .still-of q m);
@@ -128,7 +128,7 @@ module _ {ps : List Point} (acc : Accepted ps) where
   }
 
   -- a point where the right end carried is: both go
-  pub cancels : {rest : List Point} {row : ℤ} {o : ℤ} {g : ℕ} {A : List Live} {B : List Live} {p : Point} → Sweeping ps (stand (p ∷ rest) row (p .x) o far g A B) → p .y ≡ row → Sweeping ps (stand rest row far o far g A B)
+  pub cancels : {rest : List Point} {row o : ℤ} {g : ℕ} {A B : List Live} {p : Point} → Sweeping ps (stand (p ∷ rest) row (p .x) o far g A B) → p .y ≡ row → Sweeping ps (stand rest row far o far g A B)
   cancels {rest} {row} {o} {g} {A} {B} {p} w e =
       let few : Fewer row (p ∷ rest) rest = one-goes (w .rest-rising) e in
       moves w few as-shown (record {
@@ -147,7 +147,7 @@ module _ {ps : List Point} (acc : Accepted ps) where
           ∙ sym (shows-parts f ps rest row far o far g A B)
 
   -- the next point of the row is taken in hand
-  pub takes-point : {rest : List Point} {row : ℤ} {c : ℤ} {o : ℤ} {g : ℕ} {A : List Live} {B : List Live} {p : Point} → Sweeping ps (stand (p ∷ rest) row c o far g A B) → p .y ≡ row → ltZ (p .x) c ≡ true → ((k : Live) → In k B → ltZ (p .x) (k .left) ≡ true) → Sweeping ps (stand rest row c o (p .x) g A B)
+  pub takes-point : {rest : List Point} {row c o : ℤ} {g : ℕ} {A B : List Live} {p : Point} → Sweeping ps (stand (p ∷ rest) row c o far g A B) → p .y ≡ row → ltZ (p .x) c ≡ true → ((k : Live) → In k B → ltZ (p .x) (k .left) ≡ true) → Sweeping ps (stand rest row c o (p .x) g A B)
   takes-point {rest} {row} {c} {o} {g} {A} {B} {p} w e h f =
       let few : Fewer row (p ∷ rest) rest = one-goes (w .rest-rising) e in
       moves w few as-shown (record {
@@ -169,7 +169,7 @@ module _ {ps : List Point} (acc : Accepted ps) where
           ∙ sym (shows-parts t ps rest row c o (p .x) g A B)
 
   -- or the right end that is carried
-  pub takes-carried : {rest : List Point} {row : ℤ} {c : ℤ} {o : ℤ} {g : ℕ} {A : List Live} {B : List Live} → Sweeping ps (stand rest row c o far g A B) → ltZ c (nextOn row rest) ≡ true → ((k : Live) → In k B → ltZ c (k .left) ≡ true) → Sweeping ps (stand rest row far o c g A B)
+  pub takes-carried : {rest : List Point} {row c o : ℤ} {g : ℕ} {A B : List Live} → Sweeping ps (stand rest row c o far g A B) → ltZ c (nextOn row rest) ≡ true → ((k : Live) → In k B → ltZ c (k .left) ≡ true) → Sweeping ps (stand rest row far o c g A B)
   takes-carried {rest} {row} {c} {o} {g} {A} {B} w h f =
       moves w (all-stay (w .rest-rising)) as-shown (record {
         carried-after = w .passed-hand;
@@ -190,7 +190,7 @@ module _ {ps : List Point} (acc : Accepted ps) where
           ∙ sym (shows-parts t ps rest row far o c g A B)
 
   -- the point in hand is the left end of a rectangle that begins
-  pub opens : {rest : List Point} {row : ℤ} {c : ℤ} {g : ℕ} {A : List Live} {B : List Live} {h : ℤ} → Sweeping ps (stand rest row c far h g A B) → eqZ h far ≡ false → Sweeping ps (stand rest row c h far g A B)
+  pub opens : {rest : List Point} {row c : ℤ} {g : ℕ} {A B : List Live} {h : ℤ} → Sweeping ps (stand rest row c far h g A B) → eqZ h far ≡ false → Sweeping ps (stand rest row c h far g A B)
   opens {rest} {row} {c} {g} {A} {B} {h} w e =
       moves w (all-stay (w .rest-rising)) as-shown (record {
         carried-after = w .passed-carried;
@@ -208,7 +208,7 @@ module _ {ps : List Point} (acc : Accepted ps) where
           ∙ sym (shows-parts t ps rest row c h far g A B)
 
   -- or the right end of the one that is open, which is the next of the list
-  pub closes : {rest : List Point} {row : ℤ} {c : ℤ} {o : ℤ} {g : ℕ} {A : List Live} {B : List Live} {h : ℤ} → Sweeping ps (stand rest row c o h g A B) → eqZ o far ≡ false → eqZ h far ≡ false → (g < length (ruleList ps)) × Sweeping ps (stand rest row c far far (g + 1) (A ++ (record { left = o; right = h; row = row; place = pos g } ∷ [])) B)
+  pub closes : {rest : List Point} {row c o : ℤ} {g : ℕ} {A B : List Live} {h : ℤ} → Sweeping ps (stand rest row c o h g A B) → eqZ o far ≡ false → eqZ h far ≡ false → (g < length (ruleList ps)) × Sweeping ps (stand rest row c far far (g + 1) (A ++ (record { left = o; right = h; row = row; place = pos g } ∷ [])) B)
   unfolding endOf
   closes {rest} {row} {c} {o} {g} {A} {B} {h} w e d = (
     b .in-list,

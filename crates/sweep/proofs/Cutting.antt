@@ -23,7 +23,7 @@ use Rattle.live.specs.declared.Live.{Live}
 use Rattle.live.specs.Stands.{far, number, rectNo, endOf, nextOn, stand, Sweeping}
 use Rattle.live.proofs.Numbered.{rect-no-solid}
 use Rattle.live.proofs.Shown.{live-wide, live-far}
-use Rattle.live.proofs.Crossing.{carried-far, cuts, cut-at-carried, cut-at-point, cut-elsewhere}
+use Rattle.live.proofs.Crossing.{Reached, carried-far, cuts, cut-at-carried, cut-at-point, cut-elsewhere}
 use Rattle.sweep.specs.declared.Sweep.{Sweep}
 use Rattle.sweep.specs.Inner.{carriedPoint, nearer, afterPoint, withCarried, takenFrom, carrying, leftEnd, endPut, endPutWork, cutTo, cutWork, endedBox, restOf, passedIn, Underway, toCome, liveSum, Gives}
 use Rattle.sweep.proofs.Kept.{kept-all}
@@ -49,11 +49,17 @@ module _ {qs : List Point} {work : List ℤ} {z : Sweep} {t : Point} {k : Live} 
   at : t .x ≡ nextOn (z .row) (restOf qs z)
   at = c .at-next
 
-  -- the row ends it
+  -- it is reached
+  reached : Reached (z .opened) (nextOn (z .row) (restOf qs z)) (z .carried) k
+  reached = ⊎-elim (λ (o : eqZ (z .opened) far ≡ false). inl o) (λ (f : ltZ (nearer z t .x) (k .right) ≡ true). inr (falls f (nearer-one c))) over
+    where
+      falls : ltZ (nearer z t .x) (k .right) ≡ true → (nearer z t .x ≡ t .x) ⊎ (nearer z t .x ≡ z .carried) → (ltZ (nextOn (z .row) (restOf qs z)) (k .right) ≡ true) ⊎ (ltZ (z .carried) (k .right) ≡ true)
+      falls f (inl d) = inl (omega (order, at))
+      falls f (inr d) = inr (omega order)
+
+  -- so the row ends it
   ends-here : endOf qs k ≡ z .row
-  ends-here =
-      let l = nearer-least c in
-      cuts (u .ready .points) (stands c e) (omega (order, at)) (omega order) (rw (← at) (c .end-waits)) (⊎-elim (λ (o : eqZ (z .opened) far ≡ false). inl o) (λ (f : ltZ (nearer z t .x) (k .right) ≡ true). inr (⊎-elim (λ (d : nearer z t .x ≡ t .x). inl (omega (order, at))) (λ (d : nearer z t .x ≡ z .carried). inr (omega order)) (nearer-one c))) over)
+  ends-here = let l = nearer-least c in cuts (u .ready .points) (stands c e) (omega (order, at)) (omega order) (rw (← at) (c .end-waits)) reached
 
   -- its number is of the list
   listed : number k < length (ruleList qs)

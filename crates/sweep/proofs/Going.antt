@@ -20,7 +20,7 @@ use Rattle.live.specs.declared.Live.{Live}
 use Rattle.live.specs.Stands.{far, number, stand, Sweeping}
 use Rattle.live.proofs.Moves.{opens, closes}
 use Rattle.sweep.specs.declared.Sweep.{Sweep}
-use Rattle.sweep.specs.Inner.{putLive, KeptPast, opening, closed, newLive, endPut, endPutWork, roomFor, restOf, passedIn, aheadIn, there, Underway, toCome, liveSum}
+use Rattle.sweep.specs.Inner.{putLive, KeptPast, withOpened, closed, newLive, endPut, endPutWork, roomFor, restOf, passedIn, aheadIn, there, Underway, toCome, liveSum}
 use Rattle.sweep.proofs.Kept.{kept-all}
 use Rattle.sweep.proofs.Places.{live-put}
 
@@ -73,7 +73,7 @@ pub record Put (qs : List Point) (z : Sweep) (before : List ℤ) (at : Sweep) (a
 
 module _ {qs : List Point} {work : List ℤ} {z : Sweep} (v : Point) (g : Underway qs work z (v .x)) (e : eqZ (v .x) far ≡ false) where
   -- it opens a rectangle
-  put-opens : eqZ (z .opened) far ≡ true → Put qs z work (opening z v) work
+  put-opens : eqZ (z .opened) far ≡ true → Put qs z work (withOpened z (v .x)) work
   put-opens d = record {
     underway = record {
       ready = g .ready;
@@ -120,6 +120,6 @@ module _ {qs : List Point} {work : List ℤ} {z : Sweep} (v : Point) (g : Underw
   pub put-ends : Put qs z work (endPut z v) (endPutWork work z v)
   put-ends = go (eqZ (z .opened) far) refl
     where
-      go : (t : Bool) → eqZ (z .opened) far ≡ t → Put qs z work (cond t (opening z v) (closed z)) (cond t work (putLive work (z .passed) (newLive z v)))
+      go : (t : Bool) → eqZ (z .opened) far ≡ t → Put qs z work (cond t (withOpened z (v .x)) (closed z)) (cond t work (putLive work (z .passed) (newLive z v)))
       go true d = put-opens d
       go false d = put-closes d

@@ -132,10 +132,6 @@ cancelled z = withCarried (afterPoint z) far
 abbrev pub takenFrom : Sweep → Point → Sweep
 takenFrom z t = cond (ltZ (t .x) (z .carried)) (afterPoint z) (withCarried z far)
 
--- with an end that opens a rectangle
-abbrev pub opening : Sweep → Point → Sweep
-opening z v = withOpened z (v .x)
-
 -- with the open one closed
 abbrev pub closed : Sweep → Sweep
 closed z = withGiven (withOpened (withStacks z (z .passed + 1) (z .ahead)) far) (z .given + 1)
@@ -146,7 +142,7 @@ newLive z v = record { left = z .opened; right = v .x; row = z .row; place = pos
 
 -- with an end put on the row: it opens a rectangle, or closes the open one
 abbrev pub endPut : Sweep → Point → Sweep
-endPut z v = cond (eqZ (z .opened) far) (opening z v) (closed z)
+endPut z v = cond (eqZ (z .opened) far) (withOpened z (v .x)) (closed z)
 
 -- the working array then
 abbrev pub endPutWork : (work : List ℤ) → Sweep → Point → List ℤ

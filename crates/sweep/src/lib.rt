@@ -19,7 +19,7 @@ ghost use Rattle.rule.specs.Answers.{forwardAnswer, forwardWork, forwardOut};
 ghost use Rattle.checks.specs.Screens.{screenOf};
 ghost use Rattle.live.specs.Stands.{far, number};
 ghost use Rattle.sweep.specs.Inner.{putRect, liveSize, liveAt, putLive, zeroed, farPoint, farLive, nextPoint, nextLive, onRowOf, carriedPoint, nearer};
-ghost use Rattle.sweep.specs.Inner.{afterPoint, withCarried, startOf, cancelled, takenFrom, opening, closed, newLive, endPut, endPutWork, passing, carrying, leftEnd, cutTo, cutWork};
+ghost use Rattle.sweep.specs.Inner.{afterPoint, withCarried, withOpened, startOf, cancelled, takenFrom, closed, newLive, endPut, endPutWork, passing, carrying, leftEnd, cutTo, cutWork};
 ghost use Rattle.sweep.specs.Inner.{endedBox, atRow, Turned, pointsAt, Ready, Underway, Advanced, Swept, inputChecks, Ordered, StandFor};
 use checks::Screen;
 use checks::order_points;
@@ -265,7 +265,7 @@ fn taken(z: Sweep, t: Point) -> Sweep
 // ---- Rectangles that begin
 
 fn open_at(mut z: Sweep, v: Point) -> Sweep
-    ensures { λ r. ⌜ r ≡ opening z v ⌝ }
+    ensures { λ r. ⌜ r ≡ withOpened z (v .x) ⌝ }
 {
     z.opened = v.x;
     z

@@ -202,32 +202,9 @@ pub advance-spec : {M : Type 1} → statement M
 advance-spec =
     tie.close
     (tie.spec
-    (λ c κs. search needs)
-    (λ c κs. search needs)
-    (λ c κs. search needs)
-    (λ c κs. search needs)
-    (λ c κs. next-few (start (c .before .before .before .before)))
-    returns
-    (λ c κs. search needs)
-    returns-2
-    (λ c κs. search needs)
-    (λ c. search needs)
-    returns-3
-    next-live-requires
-    (λ c κs. search needs)
-    (λ c κs. search needs)
-    (λ c κs. next-few (start (row-of (c .before .before .before))))
-    put-end-requires
-    (λ c. search needs)
-    returns-4
-    (λ c κs. search needs)
-    (λ c κs. search needs)
-    cut-requires
-    ended-requires
-    place-in-list-requires
-    (λ c. search needs)
-    returns-5
-    put-live-requires
-    (λ c κs. search needs)
-    (λ c. search needs)
-    returns-6)
+    (λ c κs. search needs) (λ c κs. search needs) (λ c κs. search needs) (λ c κs. search needs)
+    (λ c κs. next-few (start (c .before .before .before .before))) returns (λ c κs. search needs) returns-2 (λ c κs. search needs)
+    (λ c. search needs) returns-3 next-live-requires (λ c κs. search needs) (λ c κs. search needs)
+    (λ c κs. next-few (start (row-of (c .before .before .before)))) put-end-requires (λ c. search needs) returns-4
+    (λ c κs. search needs) (λ c κs. search needs) cut-requires ended-requires place-in-list-requires (λ c. search needs) returns-5
+    put-live-requires (λ c κs. search needs) (λ c. search needs) returns-6)

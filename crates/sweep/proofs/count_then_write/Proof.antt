@@ -109,16 +109,5 @@ pub count-then-write-spec : {M : Type 1} → statement M
 count-then-write-spec =
     tie.close
     (tie.spec
-    sweep-all-requires
-    (λ c. search needs)
-    zero-start-requires
-    (λ c κs. search needs)
-    (λ c. search needs)
-    (λ c. search needs)
-    returns
-    sweep-all-requires-2
-    (λ c. search needs)
-    zero-start-requires-2
-    (λ c. search needs)
-    (λ c. search needs)
-    returns-2)
+    sweep-all-requires (λ c. search needs) zero-start-requires (λ c κs. search needs) (λ c. search needs) (λ c. search needs) returns
+    sweep-all-requires-2 (λ c. search needs) zero-start-requires-2 (λ c. search needs) (λ c. search needs) returns-2)

@@ -23,40 +23,27 @@ Inv-loop points order work₀ rects₀ writes z₀ made₀ area₀ edge₀ work 
 abbrev μ-loop : tie.MeasureT-loop
 μ-loop points order work₀ rects₀ writes z₀ made₀ area₀ edge₀ work rects z made area edge = toCome (pointsAt points order) z
 
--- where a move is made, from there on, and what it leaves of the working array
+-- of a move: where the loop is, the points that are swept, and what it leaves of the working array
 abbrev loop-of : tie.After-advance Inv-loop μ-loop → tie.At-loop Inv-loop μ-loop
 loop-of d = d .before .before
+
+abbrev swept : tie.After-advance Inv-loop μ-loop → List Point
+swept d = let s = loop-of d .before .before .before .args in pointsAt (s .points .now) (s .order .now)
 
 abbrev work-after : tie.After-advance Inv-loop μ-loop → List ℤ
 work-after d = d .advance .last .1 .1 .0
 
--- the points that are swept
-abbrev swept : tie.Start Inv-loop μ-loop → List Point
-swept s = pointsAt (s .args .points .now) (s .args .order .now)
-
-abbrev start : tie.After-advance Inv-loop μ-loop → tie.Start Inv-loop μ-loop
-start d = loop-of d .before .before .before
-
 loop-holds : tie.Need-loop-holds Inv-loop μ-loop
 loop-holds c = let s = c .before .before in starts-making (s .pre .0) (length-map (s .args .order .now) (pointAt (pointsOf (s .args .points .now)))) (s .pre .1) (c .start .ensures)
 
-advance-requires : tie.Need-advance-requires Inv-loop μ-loop
-advance-requires c κs = c .before .loop .inv .underway
-
 -- ---- A move that goes on
 
-abbrev moved-on : tie.After-at Inv-loop μ-loop → tie.After-advance Inv-loop μ-loop
-moved-on k = k .before .before .before
-
 -- it is one
-on : (k : tie.After-at Inv-loop μ-loop) → let d = moved-on k in let l = loop-of d .loop in GoesOn (swept (start d)) (l .z) (l .work) (k .at .given .0 .0) (work-after d)
+on : (k : tie.After-at Inv-loop μ-loop) → let d = k .before .before .before in let l = loop-of d .loop in GoesOn (swept d) (l .z) (l .work) (k .at .given .0 .0) (work-after d)
 on k = rw (k .at .given .1) at (k .before .before .before .advance .ensures)
 
-loop-less : tie.Need-loop-less Inv-loop μ-loop
-loop-less c = on (c .before) .less
-
 loop-again : tie.Need-loop-again Inv-loop μ-loop
-loop-again c = let k = c .before in goes-on (loop-of (moved-on k) .loop .inv) (on k)
+loop-again c = let k = c .before in goes-on (loop-of (k .before .before .before) .loop .inv) (on k)
 
 -- ---- A move that gives a rectangle
 
@@ -64,7 +51,7 @@ abbrev gave : tie.After-rect Inv-loop μ-loop → tie.After-advance Inv-loop μ-
 gave k = k .before .before .before
 
 -- it is one
-given : (k : tie.After-rect Inv-loop μ-loop) → let d = gave k in let l = loop-of d .loop in Gives (swept (start d)) (l .z) (l .work) (k .rect .given .0 .0) (k .rect .given .0 .1 .0) (k .rect .given .0 .1 .1 .0) (work-after d)
+given : (k : tie.After-rect Inv-loop μ-loop) → let d = gave k in let l = loop-of d .loop in Gives (swept d) (l .z) (l .work) (k .rect .given .0 .0) (k .rect .given .0 .1 .0) (k .rect .given .0 .1 .1 .0) (work-after d)
 given k = rw (k .rect .given .1) at (k .before .before .before .advance .ensures)
 
 -- the rectangle has an area and an edge
@@ -103,15 +90,15 @@ abbrev refused : tie.After-answer Inv-loop μ-loop → tie.After-advance Inv-loo
 refused k = k .before .before .before
 
 -- the refusal is DRAINED, and comes when all are given
-refusal : (k : tie.After-answer Inv-loop μ-loop) → let d = refused k in let l = loop-of d .loop in (k .answer .given .0 .0 ≡ 10) × (k .answer .given .0 .1 .0 ≡ 0) × AllGiven (swept (start d)) (l .z) (l .work) (work-after d)
+refusal : (k : tie.After-answer Inv-loop μ-loop) → let d = refused k in let l = loop-of d .loop in (k .answer .given .0 .0 ≡ 10) × (k .answer .given .0 .1 .0 ≡ 0) × AllGiven (swept d) (l .z) (l .work) (work-after d)
 refusal k = rw (k .answer .given .1) at (k .before .before .before .advance .ensures)
 
 -- the working array is as long as it was
-work-long : (k : tie.After-answer Inv-loop μ-loop) → let d = refused k in length (work-after d) ≡ length (start d .args .work .now)
+work-long : (k : tie.After-answer Inv-loop μ-loop) → let d = refused k in length (work-after d) ≡ length (loop-of d .before .before .before .args .work .now)
 work-long k = kept-on (loop-of (refused k) .loop .inv .kept) (refusal k .2 .kept) .same-length
 
 -- and so is the output
-output-long : (k : tie.After-answer Inv-loop μ-loop) → let d = refused k in length (loop-of d .loop .rects) ≡ length (start d .args .rects .now)
+output-long : (k : tie.After-answer Inv-loop μ-loop) → let d = refused k in length (loop-of d .loop .rects) ≡ length (loop-of d .before .before .before .args .rects .now)
 output-long k = output-length (loop-of (refused k) .loop .inv)
 
 -- another refusal does not come
@@ -128,29 +115,9 @@ pub sweep-all-spec : {M : Type 1} → statement M
 sweep-all-spec =
     tie.close
     (tie.spec
-    Inv-loop
-    μ-loop
-    (λ c κs. tt)
-    loop-holds
-    advance-requires
-    (λ c. search needs)
-    loop-less
-    loop-again
-    (λ c. search needs)
-    put-rect-requires
-    (λ c κs. solid (c .before .before))
-    add-area
-    (λ c κs. solid (c .before .before .before))
-    add-edge
-    (λ c. omega (arith, made-fits (loop-again-2 c)))
-    (λ c. given (c .before .before .before .before) .less)
-    loop-again-2
-    (λ c. search needs)
-    (λ c κs. search needs)
-    (λ c. work-long (c .before .before .before))
-    (λ c. output-long (c .before .before .before))
-    returns
-    (λ c κs. search needs)
-    (λ c. work-long (c .before .before .before))
-    (λ c. output-long (c .before .before .before))
-    returns-2)
+    Inv-loop μ-loop (λ c κs. tt) loop-holds (λ c κs. c .before .loop .inv .underway) (λ c. search needs) (λ c. on (c .before) .less)
+    loop-again (λ c. search needs) put-rect-requires (λ c κs. solid (c .before .before)) add-area
+    (λ c κs. solid (c .before .before .before)) add-edge (λ c. omega (arith, made-fits (loop-again-2 c)))
+    (λ c. given (c .before .before .before .before) .less) loop-again-2 (λ c. search needs) (λ c κs. search needs)
+    (λ c. work-long (c .before .before .before)) (λ c. output-long (c .before .before .before)) returns (λ c κs. search needs)
+    (λ c. work-long (c .before .before .before)) (λ c. output-long (c .before .before .before)) returns-2)

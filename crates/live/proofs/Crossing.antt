@@ -20,19 +20,31 @@ use Rattle.plane.proofs.Rising.{rising-least}
 use Rattle.rule.specs.Rule.{leftOf, ruleList}
 use Rattle.rule.specs.Rows.{Accepted}
 use Rattle.live.specs.declared.Live.{Live}
-use Rattle.live.specs.Stands.{after, number, endOf, IsLive, Apart, far, Stand, stand, Before, waiting, nextOn, Sweeping}
+use Rattle.live.specs.Stands.{afterSteps, number, endOf, IsLive, Apart, far, Stand, stand, Before, waiting, nextOn, Sweeping}
 use Rattle.live.proofs.Numbered.{after-accepted, all-made, top-on-row}
 use Rattle.live.proofs.Columns.{is-left, none-left}
 use Rattle.live.proofs.Steady.{steady-over}
-use Rattle.live.proofs.Shown.{odd-far, odd-waiting, odd-held, waiting-none-left, live-listed, odd-tops, odd-tops-last, tops-even, apart-left, apart-right, apart-without, next-far, next-first, next-odd, shows-rest}
+use Rattle.live.proofs.Shown.{odd-far, odd-waiting, odd-waiting-points, waiting-none-left, live-listed, odd-tops, odd-tops-last, tops-even, apart-left, apart-right, apart-without, next-far, next-first, next-odd, shows-rest}
 use Rattle.live.proofs.Moves.{Fewer, all-stay, one-goes}
 use Rattle.live.proofs.Width.{leftHere, sides, even-below, goes-on-over}
+
+-- ---- What ends a live rectangle, and what comes of its left end
+
+-- something is open, or something to come falls into it: the next point, or the right end carried
+abbrev pub Reached : (opened next carried : ℤ) → Live → Type 0
+Reached opened next carried k = (eqZ opened far ≡ false) ⊎ ((ltZ next (k .right) ≡ true) ⊎ (ltZ carried (k .right) ≡ true))
+
+-- what comes of the left end x of one that ends: it goes with a point to come or with the right end carried there, or is in hand
+record LeftEnd (row x c : ℤ) (rest rest′ : List Point) (h : ℤ) : Type 0 where
+  fewer : Fewer row rest rest′
+  put : (f : Point → Bool) → xor (odd f rest) (xor (f (record { x = x; y = row })) (odd f (waiting c row))) ≡ xor (odd f rest′) (odd f (waiting h row))
+  hand-is : (h ≡ far) ⊎ ((h ≡ x) × (ltZ h (nextOn row rest′) ≡ true))
 
 module _ {ps : List Point} (acc : Accepted ps) where
   -- ---- The next one ahead goes on
 
   -- one ahead with nothing open and nothing to come over its width is passed
-  pub keeps : {rest : List Point} {row : ℤ} {c : ℤ} {g : ℕ} {A : List Live} {B : List Live} {k : Live} → Sweeping ps (stand rest row c far far g A (k ∷ B)) → leZ (k .right) (nextOn row rest) ≡ true → leZ (k .right) c ≡ true → Sweeping ps (stand rest row c far far g (A ++ (k ∷ [])) B)
+  pub keeps : {rest : List Point} {row c : ℤ} {g : ℕ} {A B : List Live} {k : Live} → Sweeping ps (stand rest row c far far g A (k ∷ B)) → leZ (k .right) (nextOn row rest) ≡ true → leZ (k .right) c ≡ true → Sweeping ps (stand rest row c far far g (A ++ (k ∷ [])) B)
   keeps {rest} {row} {c} {g} {A} {B} {k} w h f = record {
     rest-rising = w .rest-rising;
     rest-range = w .rest-range;
@@ -75,15 +87,15 @@ module _ {ps : List Point} (acc : Accepted ps) where
   -- ---- The next one ahead ends
 
   -- the right end carried is at the left side of the next one ahead, or there is none
-  pub carried-far : {rest : List Point} {row : ℤ} {c : ℤ} {o : ℤ} {g : ℕ} {A : List Live} {B : List Live} {k : Live} → Sweeping ps (stand rest row c o far g A (k ∷ B)) → ltZ c (k .left) ≡ false → eqZ c (k .left) ≡ false → c ≡ far
+  pub carried-far : {rest : List Point} {row c o : ℤ} {g : ℕ} {A B : List Live} {k : Live} → Sweeping ps (stand rest row c o far g A (k ∷ B)) → ltZ c (k .left) ≡ false → eqZ c (k .left) ≡ false → c ≡ far
   carried-far {c = c} {k = k} w h d = go (eqZ c far) refl
     where
       go : (t : Bool) → eqZ c far ≡ t → c ≡ far
       go true e = eqZ-is c far e
       go false e = let n = w .carried-first e k (head refl) in absurd (omega order)
 
-  -- one ahead with something open, or with something to come over its width, ends on this row
-  pub cuts : {rest : List Point} {row : ℤ} {c : ℤ} {o : ℤ} {g : ℕ} {A : List Live} {B : List Live} {k : Live} → Sweeping ps (stand rest row c o far g A (k ∷ B)) → ltZ (nextOn row rest) (k .left) ≡ false → ltZ c (k .left) ≡ false → eqZ (nextOn row rest) c ≡ false → (eqZ o far ≡ false) ⊎ ((ltZ (nextOn row rest) (k .right) ≡ true) ⊎ (ltZ c (k .right) ≡ true)) → endOf ps k ≡ row
+  -- one that is reached ends on this row
+  pub cuts : {rest : List Point} {row c o : ℤ} {g : ℕ} {A B : List Live} {k : Live} → Sweeping ps (stand rest row c o far g A (k ∷ B)) → ltZ (nextOn row rest) (k .left) ≡ false → ltZ c (k .left) ≡ false → eqZ (nextOn row rest) c ≡ false → Reached o (nextOn row rest) c k → endOf ps k ≡ row
   cuts {rest} {row} {c} {o} {g} {A} {B} {k} w h f d over =
       let reach = w .ahead-over k (head refl) in
       let not-below : ltZ row (endOf ps k) ≡ false = by-no (ltZ row (endOf ps k)) (λ e. go e (eqZ o far) refl (ltZ (nextOn row rest) c) refl over) in
@@ -104,7 +116,7 @@ module _ {ps : List Point} (acc : Accepted ps) where
       waits : (x b : ℤ) → eqZ x far ≡ false → ltZ x b ≡ true → odd (leftOf b row) (waiting x row) ≡ true
       waits x b n s = odd-waiting (leftOf b row) x row n ∙ is-left b row (record { x = x; y = row }) refl s
 
-      go : ltZ row (endOf ps k) ≡ true → (t : Bool) → eqZ o far ≡ t → (u : Bool) → ltZ next c ≡ u → (eqZ o far ≡ false) ⊎ ((ltZ next (k .right) ≡ true) ⊎ (ltZ c (k .right) ≡ true)) → ⊥
+      go : ltZ row (endOf ps k) ≡ true → (t : Bool) → eqZ o far ≡ t → (u : Bool) → ltZ next c ≡ u → Reached o next c k → ⊥
       go e false n u s v =
           let first = w .opened-first n .0 .before-ahead k (head refl) in
           let a = narrow in
@@ -121,15 +133,14 @@ module _ {ps : List Point} (acc : Accepted ps) where
           let inside : ltZ c (k .right) ≡ true = ⊎-elim (λ (i : ltZ next (k .right) ≡ true). omega order) (λ (i : ltZ c (k .right) ≡ true). i) v in
           odd-somewhere e b (omega (order, next-up c)) (omega (order, next-up c)) (rw (to-come b (omega (order, next-up c)), waits c b (omega order) (omega (order, next-up c)), waiting-none-left b o row (omega (order, next-up c))) (simp (false-xor, xor-false)))
 
-  -- one that ends goes, and its right end is carried: its left end goes with a point to come or with the right end carried there before, or is
-  -- in hand
-  cut : {rest : List Point} {row c o : ℤ} {g : ℕ} {A B : List Live} {k : Live} → Sweeping ps (stand rest row c o far g A (k ∷ B)) → endOf ps k ≡ row → (rest′ : List Point) (h : ℤ) → Fewer row rest rest′ → ((f : Point → Bool) → xor (odd f rest) (xor (f (record { x = k .left; y = row })) (odd f (waiting c row))) ≡ xor (odd f rest′) (odd f (waiting h row))) → (h ≡ far) ⊎ ((h ≡ k .left) × (ltZ h (nextOn row rest′) ≡ true)) → Sweeping ps (stand rest′ row (k .right) o h g A B)
-  cut {rest} {row} {c} {o} {g} {A} {B} {k} w e rest′ h few left-end hand-is = record {
+  -- one that ends goes, and its right end is carried
+  cut : {rest rest′ : List Point} {row c o h : ℤ} {g : ℕ} {A B : List Live} {k : Live} → Sweeping ps (stand rest row c o far g A (k ∷ B)) → endOf ps k ≡ row → LeftEnd row (k .left) c rest rest′ h → Sweeping ps (stand rest′ row (k .right) o h g A B)
+  cut {rest} {rest′} {row} {c} {o} {h} {g} {A} {B} {k} w e left-end = record {
     rest-rising = few .still-rising;
     rest-range = λ q m. w .rest-range q (few .still-of q m);
     rest-from = from;
     rest-all = λ q m above-row. few .still-all q (w .rest-all q m above-row) above-row;
-    shown = λ f. w .shown f ∙ rw (odd-tops f ps k B, e, odd-held f c o far row, odd-held f (k .right) o h row, odd-far f row, odd-waiting f (k .right) row (let s = narrow in omega order)) (trade _ _ _ _ _ _ _ _ _ (left-end f));
+    shown = λ f. w .shown f ∙ rw (odd-tops f ps k B, e, odd-waiting-points f c o far row, odd-waiting-points f (k .right) o h row, odd-far f row, odd-waiting f (k .right) row (let s = narrow in omega order)) (trade _ _ _ _ _ _ _ _ _ (left-end .put f));
     begun = w .begun;
     given-few = w .given-few;
     passed-live = w .passed-live;
@@ -149,10 +160,13 @@ module _ {ps : List Point} (acc : Accepted ps) where
         let u = w .opened-first d .0 in
         let v = u .before-ahead k (head refl) in
         (record { before-rest = λ q m. u .before-rest q (few .still-of q m); before-ahead = λ j m. u .before-ahead j (tail m) }, omega order, omega order);
-    hand-first = λ d. ⊎-elim (λ f. absurd (omega order)) at-hand hand-is;
+    hand-first = λ d. ⊎-elim (λ f. absurd (omega order)) at-hand (left-end .hand-is);
     carried-first = λ d j m. apart-right k B A (w .apart) j m;
   }
     where
+      few : Fewer row rest rest′
+      few = left-end .fewer
+
       narrow : (ltZ (k .left) (k .right) ≡ true) × (ltZ (k .right) far ≡ true)
       narrow = sides acc w k (head refl)
 
@@ -160,7 +174,7 @@ module _ {ps : List Point} (acc : Accepted ps) where
       from q m = w .rest-from q (few .still-of q m)
 
       hand-from : leZ (k .left) h ≡ true
-      hand-from = let s = narrow in ⊎-elim (λ (f : h ≡ far). omega order) (λ (f : (h ≡ k .left) × (ltZ h (nextOn row rest′) ≡ true)). omega order) hand-is
+      hand-from = let s = narrow in ⊎-elim (λ (f : h ≡ far). omega order) (λ (f : (h ≡ k .left) × (ltZ h (nextOn row rest′) ≡ true)). omega order) (left-end .hand-is)
 
       at-hand : (h ≡ k .left) × (ltZ h (nextOn row rest′) ≡ true) → Before (stand rest′ row (k .right) o h g A B) h × (ltZ h (k .right) ≡ true)
       at-hand f =
@@ -173,14 +187,18 @@ module _ {ps : List Point} (acc : Accepted ps) where
           gather ∙ ap (λ s. xor s (xor p (xor t (xor b o)))) d ∙ simp (xor-assoc, xor-left-comm, xor-comm)
 
   -- it goes, and its right end is carried; its left end goes with the right end carried there before
-  pub cut-at-carried : {rest : List Point} {row : ℤ} {o : ℤ} {g : ℕ} {A : List Live} {B : List Live} {k : Live} → Sweeping ps (stand rest row (k .left) o far g A (k ∷ B)) → endOf ps k ≡ row → Sweeping ps (stand rest row (k .right) o far g A B)
+  pub cut-at-carried : {rest : List Point} {row o : ℤ} {g : ℕ} {A B : List Live} {k : Live} → Sweeping ps (stand rest row (k .left) o far g A (k ∷ B)) → endOf ps k ≡ row → Sweeping ps (stand rest row (k .right) o far g A B)
   cut-at-carried {rest} {row} {k = k} w e =
       let s = sides acc w k (head refl) in
-      cut w e rest far (all-stay (w .rest-rising)) (λ f. rw (odd-waiting f (k .left) row (omega order), odd-far f row) (ap (xor (odd f rest)) (xor-self _))) (inl refl)
+      cut w e (record {
+        fewer = all-stay (w .rest-rising);
+        put = λ f. rw (odd-waiting f (k .left) row (omega order), odd-far f row) (ap (xor (odd f rest)) (xor-self _));
+        hand-is = inl refl;
+      })
 
   -- or with a point there
-  pub cut-at-point : {rest : List Point} {row : ℤ} {o : ℤ} {g : ℕ} {A : List Live} {B : List Live} {k : Live} {p : Point} → Sweeping ps (stand (p ∷ rest) row far o far g A (k ∷ B)) → p .y ≡ row → p .x ≡ k .left → endOf ps k ≡ row → Sweeping ps (stand rest row (k .right) o far g A B)
-  cut-at-point {rest} {row} {k = k} {p = p} w e d f = cut w f rest far (one-goes (w .rest-rising) e) (λ t. rw (odd-cons t p rest, corner t, odd-far t row) (both _ _)) (inl refl)
+  pub cut-at-point : {rest : List Point} {row o : ℤ} {g : ℕ} {A B : List Live} {k : Live} {p : Point} → Sweeping ps (stand (p ∷ rest) row far o far g A (k ∷ B)) → p .y ≡ row → p .x ≡ k .left → endOf ps k ≡ row → Sweeping ps (stand rest row (k .right) o far g A B)
+  cut-at-point {rest} {row} {k = k} {p = p} w e d f = cut w f (record { fewer = one-goes (w .rest-rising) e; put = λ t. rw (odd-cons t p rest, corner t, odd-far t row) (both _ _); hand-is = inl refl })
     where
       corner : (t : Point → Bool) → t p ≡ t (record { x = k .left; y = row })
       corner t = ap t (λ i. record { x = d i; y = e i })
@@ -189,10 +207,14 @@ module _ {ps : List Point} (acc : Accepted ps) where
       both a r = simp (xor-assoc, xor-left-comm, xor-back)
 
   -- or is in hand
-  pub cut-elsewhere : {rest : List Point} {row : ℤ} {o : ℤ} {g : ℕ} {A : List Live} {B : List Live} {k : Live} → Sweeping ps (stand rest row far o far g A (k ∷ B)) → ltZ (k .left) (nextOn row rest) ≡ true → endOf ps k ≡ row → Sweeping ps (stand rest row (k .right) o (k .left) g A B)
+  pub cut-elsewhere : {rest : List Point} {row o : ℤ} {g : ℕ} {A B : List Live} {k : Live} → Sweeping ps (stand rest row far o far g A (k ∷ B)) → ltZ (k .left) (nextOn row rest) ≡ true → endOf ps k ≡ row → Sweeping ps (stand rest row (k .right) o (k .left) g A B)
   cut-elsewhere {rest} {row} {k = k} w h e =
       let s = sides acc w k (head refl) in
-      cut w e rest (k .left) (all-stay (w .rest-rising)) (λ f. rw (odd-waiting f (k .left) row (omega order), odd-far f row, xor-false)) (inr (refl, h))
+      cut w e (record {
+        fewer = all-stay (w .rest-rising);
+        put = λ f. rw (odd-waiting f (k .left) row (omega order), odd-far f row, xor-false);
+        hand-is = inr (refl, h);
+      })
 
   -- ---- The row is done
 
@@ -208,8 +230,8 @@ module _ {ps : List Point} (acc : Accepted ps) where
       go true e = eqZ-is o far e
       go false e =
           let come : odd f rest ≡ false = odd-none f rest (λ q m. let h = over q m in omega order) in
-          let even : odd f (after ps g) ≡ false = after-accepted ps acc g .rows row in
-          let shows-one : odd f (after ps g) ≡ true = w .shown f ∙ rw (come, tops-even ps row A, tops-even ps row B, odd-held f far o far row, odd-far f row, odd-waiting f o row e, eqZ-refl row) (simp (false-xor, xor-false)) in
+          let even : odd f (afterSteps ps g) ≡ false = after-accepted ps acc g .rows row in
+          let shows-one : odd f (afterSteps ps g) ≡ true = w .shown f ∙ rw (come, tops-even ps row A, tops-even ps row B, odd-waiting-points f far o far row, odd-far f row, odd-waiting f o row e, eqZ-refl row) (simp (false-xor, xor-false)) in
           clash shows-one even
 
   -- some ahead, all of them left of what is to come on the row, are passed
@@ -245,7 +267,7 @@ module _ {ps : List Point} (acc : Accepted ps) where
     rest-range = w .rest-range;
     rest-from = from;
     rest-all = λ q m h. w .rest-all q m (omega order);
-    shown = λ f. w .shown f ∙ rw (odd-held f far far far row, odd-held f far far far (p .y), odd-far f row, odd-far f (p .y)) (ap (xor (odd f (p ∷ rest))) (xor-left-comm _ _ _));
+    shown = λ f. w .shown f ∙ rw (odd-waiting-points f far far far row, odd-waiting-points f far far far (p .y), odd-far f row, odd-far f (p .y)) (ap (xor (odd f (p ∷ rest))) (xor-left-comm _ _ _));
     begun = λ i h. omega (order, w .begun i h);
     given-few = w .given-few;
     passed-live = λ k m. absurd (not-nil m);
@@ -281,7 +303,7 @@ module _ {ps : List Point} (acc : Accepted ps) where
   -- ---- The next row, and the end
 
   -- with nothing to come on the row nothing is open, and the next point's row follows: those left of the point are passed
-  pub turns : {rest : List Point} {row : ℤ} {o : ℤ} {g : ℕ} {A : List Live} {B : List Live} {p : Point} → Sweeping ps (stand (p ∷ rest) row far o far g A B) → eqZ (p .y) row ≡ false → (C D : List Live) → C ++ D ≡ A ++ B → ((k : Live) → In k C → leZ (k .right) (p .x) ≡ true) → (o ≡ far) × Sweeping ps (stand (p ∷ rest) (p .y) far far far g C D)
+  pub turns : {rest : List Point} {row o : ℤ} {g : ℕ} {A B : List Live} {p : Point} → Sweeping ps (stand (p ∷ rest) row far o far g A B) → eqZ (p .y) row ≡ false → (C D : List Live) → C ++ D ≡ A ++ B → ((k : Live) → In k C → leZ (k .right) (p .x) ≡ true) → (o ≡ far) × Sweeping ps (stand (p ∷ rest) (p .y) far far far g C D)
   turns {rest} {row} {g = g} {p = p} w e C D d left =
       let low = w .rest-from p (head refl) in
       let done = row-done w (λ q m. omega (order, after-row (rising-least p (w .rest-rising) m))) in
@@ -293,11 +315,11 @@ module _ {ps : List Point} (acc : Accepted ps) where
   none-passed (k ∷ A) w = absurd (not-nil (end-to-come w k (head refl) .1))
 
   -- and where none is live either, no point is left
-  none-left-over : {row : ℤ} {g : ℕ} → Sweeping ps (stand [] row far far far g [] []) → after ps g ≡ []
-  none-left-over {row} {g} w = even-none (after ps g) (after-accepted ps acc g .once) (λ f. w .shown f ∙ shows-rest f ps [] row g ∙ odd-none-of f)
+  none-left-over : {row : ℤ} {g : ℕ} → Sweeping ps (stand [] row far far far g [] []) → afterSteps ps g ≡ []
+  none-left-over {row} {g} w = even-none (afterSteps ps g) (after-accepted ps acc g .once) (λ f. w .shown f ∙ shows-rest f ps [] row g ∙ odd-none-of f)
 
   -- with no point to come none is live, and the list is whole
-  pub ends : {row : ℤ} {o : ℤ} {g : ℕ} {A : List Live} {B : List Live} → Sweeping ps (stand [] row far o far g A B) → (o ≡ far) × (A ++ B ≡ []) × (g ≡ length (ruleList ps))
+  pub ends : {row o : ℤ} {g : ℕ} {A B : List Live} → Sweeping ps (stand [] row far o far g A B) → (o ≡ far) × (A ++ B ≡ []) × (g ≡ length (ruleList ps))
   ends {row} {g = g} {A} {B} w =
       let done = row-done w (λ q m. absurd (not-nil m)) in
       let none : A ++ B ≡ [] = none-passed (A ++ B) (done .1) in

@@ -6,27 +6,27 @@ use mathlib.Core.Path.{_≡_, refl, sym, ap, _∙_}
 use mathlib.Core.Bool.{Bool, true, false, xor}
 use mathlib.Core.List.{List, [], _∷_, _++_, List·Memᴰ as In, List·Memᴰ·head as head, List·Memᴰ·tail as tail, List·Memᴰ·not-nil as not-nil}
 use lib.ListN.{length}
-use lib.IntN.{ℤ, pos, negsuc}
+use lib.IntN.{ℤ, pos}
 use lib.Signed.{leZ, ltZ}
 use Rattle.plane.specs.declared.Point.{Point}
 use Rattle.plane.specs.Lists.{odd}
-use Rattle.plane.specs.Words.{eqZ, inRange, pointInRange, rising, inOrder}
+use Rattle.plane.specs.Words.{eqZ, inRange, pointInRange, rising}
 use Rattle.plane.proofs.Order.{order, neg-up, range-up, eqZ-refl}
 use Rattle.plane.proofs.Bools.{clash, and-parts, false-xor, xor-assoc, xor-comm, xor-left-comm, xor-back}
 use Rattle.plane.proofs.Sums.{all-last-added}
 use Rattle.plane.proofs.Parity.{odd-cons}
-use Rattle.plane.proofs.Rising.{rising-rest, rising-along, inOrder-rising, inOrder-of, inOrder-all, inOrder-odd}
+use Rattle.plane.proofs.Rising.{rising-rest, rising-along}
 use Rattle.rule.specs.Rule.{leftAfter, ruleList}
 use Rattle.rule.specs.Rows.{Accepted}
 use Rattle.live.specs.declared.Live.{Live}
-use Rattle.live.specs.Stands.{after, rectNo, endOf, IsLive, none-live, far, Stand, stand, shows, Before, nextOn, Sweeping}
+use Rattle.live.specs.Stands.{afterSteps, rectNo, endOf, IsLive, none-live, far, firstRow, Stand, stand, shows, Before, nextOn, Sweeping}
 use Rattle.live.proofs.NextRect.{Begins, steps-past, hand-near, begins}
 use Rattle.live.proofs.Shown.{odd-far, odd-waiting, odd-taken, live-far, odd-tops-last, apart-between, next-near, next-first, shows-parts, shows-rest}
 
 -- ---- The start
 
 -- a number in range is above a sweep's first row
-from-below : (z : ℤ) → inRange z ≡ true → leZ (negsuc 1_999_999_999) z ≡ true
+from-below : (z : ℤ) → inRange z ≡ true → leZ firstRow z ≡ true
 from-below z e = let h = range-up z e in omega (order, neg-up 1_999_999_999)
 
 -- ---- Points to come
@@ -62,7 +62,7 @@ record Ordered (s : Stand) : Type 0 where
   carried-before : eqZ (s .carried) far ≡ false → (k : Live) → In k (s .ahead) → leZ (s .carried) (k .left) ≡ true
 
 -- a move that only takes points, or changes which of them wait
-moves : {ps rest rest′ : List Point} {row c o h c′ o′ h′ : ℤ} {g : ℕ} {A B : List Live} → Sweeping ps (stand rest row c o h g A B) → Fewer row rest rest′ → ((f : Point → Bool) → shows ps (stand rest row c o h g A B) f ≡ shows ps (stand rest′ row c′ o′ h′ g A B) f) → Ordered (stand rest′ row c′ o′ h′ g A B) → Sweeping ps (stand rest′ row c′ o′ h′ g A B)
+moves : {ps rest rest′ : List Point} {row c o h c′ o′ h′ : ℤ} {g : ℕ} {A B : List Live} → let s = stand rest row c o h g A B in let t = stand rest′ row c′ o′ h′ g A B in Sweeping ps s → Fewer row rest rest′ → ((f : Point → Bool) → shows ps s f ≡ shows ps t f) → Ordered t → Sweeping ps t
 moves w few as-shown waits = record {
   rest-rising = few .still-rising;
   rest-range = λ q m. w .rest-range q (few .still-of q m);
@@ -100,15 +100,15 @@ lower-go hm om h o r a b c = simp (xor-assoc, xor-left-comm, xor-comm, xor-back,
 -- ---- The moves
 
 module _ {ps : List Point} (acc : Accepted ps) where
-  -- a sweep starts below all rows
-  pub starts : Sweeping ps (stand (inOrder ps) (negsuc 1_999_999_999) far far far 0 [] [])
+  -- a sweep of points in order starts below all rows
+  pub starts : rising ps ≡ true → Sweeping ps (stand ps firstRow far far far 0 [] [])
   unfolding leftAfter pointInRange
-  starts = record {
-    rest-rising = inOrder-rising ps;
-    rest-range = λ q m. acc .range q (inOrder-of ps q m);
-    rest-from = λ q m. from-below (q .y) (and-parts (inRange (q .x)) (inRange (q .y)) (acc .range q (inOrder-of ps q m)) .1);
-    rest-all = λ q m h. inOrder-all ps q m;
-    shown = λ f. sym (inOrder-odd f ps (acc .once)) ∙ sym (shows-rest f ps (inOrder ps) (negsuc 1_999_999_999) 0);
+  starts in-order = record {
+    rest-rising = in-order;
+    rest-range = acc .range;
+    rest-from = λ q m. from-below (q .y) (and-parts (inRange (q .x)) (inRange (q .y)) (acc .range q m) .1);
+    rest-all = λ q m h. m;
+    shown = λ f. sym (shows-rest f ps ps firstRow 0);
     begun = λ i h. absurd (omega arith);
     given-few = omega arith;
     passed-live = λ k m. absurd (not-nil m);
@@ -128,7 +128,7 @@ module _ {ps : List Point} (acc : Accepted ps) where
   }
 
   -- a point where the right end carried is: both go
-  pub cancels : {rest : List Point} {row : ℤ} {o : ℤ} {g : ℕ} {A : List Live} {B : List Live} {p : Point} → Sweeping ps (stand (p ∷ rest) row (p .x) o far g A B) → p .y ≡ row → Sweeping ps (stand rest row far o far g A B)
+  pub cancels : {rest : List Point} {row o : ℤ} {g : ℕ} {A B : List Live} {p : Point} → Sweeping ps (stand (p ∷ rest) row (p .x) o far g A B) → p .y ≡ row → Sweeping ps (stand rest row far o far g A B)
   cancels {rest} {row} {o} {g} {A} {B} {p} w e =
       let few : Fewer row (p ∷ rest) rest = one-goes (w .rest-rising) e in
       moves w few as-shown (record {
@@ -147,7 +147,7 @@ module _ {ps : List Point} (acc : Accepted ps) where
           ∙ sym (shows-parts f ps rest row far o far g A B)
 
   -- the next point of the row is taken in hand
-  pub takes-point : {rest : List Point} {row : ℤ} {c : ℤ} {o : ℤ} {g : ℕ} {A : List Live} {B : List Live} {p : Point} → Sweeping ps (stand (p ∷ rest) row c o far g A B) → p .y ≡ row → ltZ (p .x) c ≡ true → ((k : Live) → In k B → ltZ (p .x) (k .left) ≡ true) → Sweeping ps (stand rest row c o (p .x) g A B)
+  pub takes-point : {rest : List Point} {row c o : ℤ} {g : ℕ} {A B : List Live} {p : Point} → Sweeping ps (stand (p ∷ rest) row c o far g A B) → p .y ≡ row → ltZ (p .x) c ≡ true → ((k : Live) → In k B → ltZ (p .x) (k .left) ≡ true) → Sweeping ps (stand rest row c o (p .x) g A B)
   takes-point {rest} {row} {c} {o} {g} {A} {B} {p} w e h f =
       let few : Fewer row (p ∷ rest) rest = one-goes (w .rest-rising) e in
       moves w few as-shown (record {
@@ -169,7 +169,7 @@ module _ {ps : List Point} (acc : Accepted ps) where
           ∙ sym (shows-parts t ps rest row c o (p .x) g A B)
 
   -- or the right end that is carried
-  pub takes-carried : {rest : List Point} {row : ℤ} {c : ℤ} {o : ℤ} {g : ℕ} {A : List Live} {B : List Live} → Sweeping ps (stand rest row c o far g A B) → ltZ c (nextOn row rest) ≡ true → ((k : Live) → In k B → ltZ c (k .left) ≡ true) → Sweeping ps (stand rest row far o c g A B)
+  pub takes-carried : {rest : List Point} {row c o : ℤ} {g : ℕ} {A B : List Live} → Sweeping ps (stand rest row c o far g A B) → ltZ c (nextOn row rest) ≡ true → ((k : Live) → In k B → ltZ c (k .left) ≡ true) → Sweeping ps (stand rest row far o c g A B)
   takes-carried {rest} {row} {c} {o} {g} {A} {B} w h f =
       moves w (all-stay (w .rest-rising)) as-shown (record {
         carried-after = w .passed-hand;
@@ -190,7 +190,7 @@ module _ {ps : List Point} (acc : Accepted ps) where
           ∙ sym (shows-parts t ps rest row far o c g A B)
 
   -- the point in hand is the left end of a rectangle that begins
-  pub opens : {rest : List Point} {row : ℤ} {c : ℤ} {g : ℕ} {A : List Live} {B : List Live} {h : ℤ} → Sweeping ps (stand rest row c far h g A B) → eqZ h far ≡ false → Sweeping ps (stand rest row c h far g A B)
+  pub opens : {rest : List Point} {row c : ℤ} {g : ℕ} {A B : List Live} {h : ℤ} → Sweeping ps (stand rest row c far h g A B) → eqZ h far ≡ false → Sweeping ps (stand rest row c h far g A B)
   opens {rest} {row} {c} {g} {A} {B} {h} w e =
       moves w (all-stay (w .rest-rising)) as-shown (record {
         carried-after = w .passed-carried;
@@ -208,7 +208,7 @@ module _ {ps : List Point} (acc : Accepted ps) where
           ∙ sym (shows-parts t ps rest row c h far g A B)
 
   -- or the right end of the one that is open, which is the next of the list
-  pub closes : {rest : List Point} {row : ℤ} {c : ℤ} {o : ℤ} {g : ℕ} {A : List Live} {B : List Live} {h : ℤ} → Sweeping ps (stand rest row c o h g A B) → eqZ o far ≡ false → eqZ h far ≡ false → (g < length (ruleList ps)) × Sweeping ps (stand rest row c far far (g + 1) (A ++ (record { left = o; right = h; row = row; place = pos g } ∷ [])) B)
+  pub closes : {rest : List Point} {row c o : ℤ} {g : ℕ} {A B : List Live} {h : ℤ} → Sweeping ps (stand rest row c o h g A B) → eqZ o far ≡ false → eqZ h far ≡ false → (g < length (ruleList ps)) × Sweeping ps (stand rest row c far far (g + 1) (A ++ (record { left = o; right = h; row = row; place = pos g } ∷ [])) B)
   unfolding endOf
   closes {rest} {row} {c} {o} {g} {A} {B} {h} w e d = (
     b .in-list,
@@ -259,7 +259,7 @@ module _ {ps : List Point} (acc : Accepted ps) where
       right-near : (k : Live) → In k (A ++ (new ∷ [])) → leZ (k .right) far ≡ true
       right-near = each (λ k. leZ (k .right) far ≡ true) (λ k m. let l = live-far acc (w .given-few) (w .passed-live k m) in omega order) (let l = hand-near acc w d in omega order)
 
-      as-shown : (f : Point → Bool) → odd f (after ps (g + 1)) ≡ shows ps (stand rest row c far far (g + 1) (A ++ (new ∷ [])) B) f
+      as-shown : (f : Point → Bool) → odd f (afterSteps ps (g + 1)) ≡ shows ps (stand rest row c far far (g + 1) (A ++ (new ∷ [])) B) f
       as-shown f =
           b .odd-next f
           ∙ rw (w .shown f, shows-parts f ps rest row c o h g A B, odd-waiting f o row e, odd-waiting f h row d, odd-far f row, odd-tops-last f ps A new) (lower-go _ _ _ _ _ _ _ _)

@@ -20,12 +20,12 @@ use Rattle.rule.specs.Rows.{Accepted}
 use Rattle.rule.proofs.Picks.{picks-some}
 use Rattle.rule.proofs.Steps.{step-all, step-solid, step-in-range, step-keeps-accepted, Steps, stay, more, steps, steps-accepted}
 use Rattle.rule.proofs.Bound.{rule-none, rule-next}
-use Rattle.live.specs.Stands.{after, rectNo}
+use Rattle.live.specs.Stands.{afterSteps, rectNo}
 
 -- ---- Step after step
 
 -- one step more is a step of the points that are left
-after-next : (i : ℕ) (ps : List Point) → 0 < length (after ps i) → after ps (suc i) ≡ step (after ps i) .left
+after-next : (i : ℕ) (ps : List Point) → 0 < length (afterSteps ps i) → afterSteps ps (suc i) ≡ step (afterSteps ps i) .left
 unfolding leftAfter
 after-next zero [] h = absurd (omega arith)
 after-next zero (p ∷ qs) h = refl
@@ -38,36 +38,36 @@ rule-some [] h acc = absurd (omega arith)
 rule-some (p ∷ qs) h acc = rule-next p qs acc
 
 -- without its first rectangles, the list is that of the points that their steps leave
-rule-after : (i : ℕ) (ps : List Point) → Accepted ps → drop i (ruleList ps) ≡ ruleList (after ps i)
+rule-after : (i : ℕ) (ps : List Point) → Accepted ps → drop i (ruleList ps) ≡ ruleList (afterSteps ps i)
 unfolding leftAfter
 rule-after zero ps acc = refl
 rule-after (suc i) [] acc = ap (drop (suc i)) rule-none ∙ sym rule-none
 rule-after (suc i) (p ∷ qs) acc = ap (drop (suc i)) (rule-next p qs acc) ∙ rule-after i (step (p ∷ qs) .left) (step-keeps-accepted p qs acc)
 
 -- the points that steps leave are accepted
-pub after-accepted : (ps : List Point) → Accepted ps → (i : ℕ) → Accepted (after ps i)
+pub after-accepted : (ps : List Point) → Accepted ps → (i : ℕ) → Accepted (afterSteps ps i)
 after-accepted ps acc i = steps-accepted (steps i ps acc) acc
 
 -- ---- How far the list goes
 
 -- where none are left, the list has no rectangle more
-no-more : (ps : List Point) → Accepted ps → (i : ℕ) → after ps i ≡ [] → length (ruleList ps) ≤ i
+no-more : (ps : List Point) → Accepted ps → (i : ℕ) → afterSteps ps i ≡ [] → length (ruleList ps) ≤ i
 no-more ps acc i e = omega (arith, length-drop i (ruleList ps), ap length (rule-after i ps acc ∙ ap ruleList e ∙ rule-none))
 
 -- a number below the list's length has points left
-some-left : (ps : List Point) → Accepted ps → (i : ℕ) → i < length (ruleList ps) → 0 < length (after ps i)
-some-left ps acc i h = go (after ps i) refl
+some-left : (ps : List Point) → Accepted ps → (i : ℕ) → i < length (ruleList ps) → 0 < length (afterSteps ps i)
+some-left ps acc i h = go (afterSteps ps i) refl
   where
-    go : (qs : List Point) → after ps i ≡ qs → 0 < length qs
+    go : (qs : List Point) → afterSteps ps i ≡ qs → 0 < length qs
     go [] e = let n = no-more ps acc i e in absurd (omega arith)
     go (q ∷ qs) e = omega arith
 
 -- where points are left, the list goes on
-pub goes-on : (ps : List Point) → Accepted ps → (i : ℕ) → 0 < length (after ps i) → i < length (ruleList ps)
-goes-on ps acc i h = omega (arith, length-drop i (ruleList ps), ap length (rule-after i ps acc ∙ rule-some (after ps i) h (after-accepted ps acc i)))
+pub goes-on : (ps : List Point) → Accepted ps → (i : ℕ) → 0 < length (afterSteps ps i) → i < length (ruleList ps)
+goes-on ps acc i h = omega (arith, length-drop i (ruleList ps), ap length (rule-after i ps acc ∙ rule-some (afterSteps ps i) h (after-accepted ps acc i)))
 
 -- where none are left, and not more steps were made than the list has rectangles, all were made
-pub all-made : (ps : List Point) → Accepted ps → (i : ℕ) → i ≤ length (ruleList ps) → after ps i ≡ [] → i ≡ length (ruleList ps)
+pub all-made : (ps : List Point) → Accepted ps → (i : ℕ) → i ≤ length (ruleList ps) → afterSteps ps i ≡ [] → i ≡ length (ruleList ps)
 all-made ps acc i h e = let n = no-more ps acc i e in omega arith
 
 -- ---- The step with a number
@@ -77,16 +77,16 @@ pub record StepNo (ps : List Point) (i : ℕ) : Type 0 where
   pub k : Point
   pub l : Point
   pub m : ℤ
-  pub accepted : Accepted (after ps i)
-  pub picked : Picked (after ps i) k l m
+  pub accepted : Accepted (afterSteps ps i)
+  pub picked : Picked (afterSteps ps i) k l m
   pub rect-is : rectNo ps i ≡ rectOf k l m
-  pub next-is : after ps (i + 1) ≡ toggleFour (after ps i) k l m
+  pub next-is : afterSteps ps (i + 1) ≡ toggleFour (afterSteps ps i) k l m
 
 -- a number below the list's length has its step
 pub step-no : (ps : List Point) → Accepted ps → (i : ℕ) → i < length (ruleList ps) → StepNo ps i
 unfolding rectNo step takeRect
 step-no ps acc i h =
-    let left : List Point = after ps i in
+    let left : List Point = afterSteps ps i in
     let few = some-left ps acc i h in
     let kept = after-accepted ps acc i in
     record {
@@ -109,7 +109,7 @@ pub list-at : (ps : List Point) → Accepted ps → (i : ℕ) (d : Rect) → i <
 unfolding rectNo
 list-at ps acc i d h =
     let first : getD (drop i (ruleList ps)) 0 d ≡ getD (ruleList ps) i d = getD-drop i (ruleList ps) 0 d ∙ rw add-zero in
-    sym first ∙ ap (λ (rs : List Rect). getD rs 0 d) (rule-after i ps acc ∙ rule-some (after ps i) (some-left ps acc i h) (after-accepted ps acc i))
+    sym first ∙ ap (λ (rs : List Rect). getD rs 0 d) (rule-after i ps acc ∙ rule-some (afterSteps ps i) (some-left ps acc i h) (after-accepted ps acc i))
 
 -- it is one that backward accepts
 pub rect-no-solid : (ps : List Point) → Accepted ps → (i : ℕ) → i < length (ruleList ps) → (flat (rectNo ps i) ≡ false) × (rectInRange (rectNo ps i) ≡ true)

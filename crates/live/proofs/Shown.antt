@@ -53,8 +53,8 @@ odd-taken f p row r e =
     odd-waiting f (p .x) row (omega order) ∙ ap (λ y. f (record { x = p .x; y = y })) (sym e)
 
 -- at three places
-pub odd-held : (f : Point → Bool) (c o h y : ℤ) → odd f (waiting c y ++ (waiting o y ++ waiting h y)) ≡ xor (odd f (waiting c y)) (xor (odd f (waiting o y)) (odd f (waiting h y)))
-odd-held f c o h y = odd-append f (waiting c y) _ ∙ ap (xor _) (odd-append f (waiting o y) (waiting h y))
+pub odd-waiting-points : (f : Point → Bool) (c o h y : ℤ) → odd f (waiting c y ++ (waiting o y ++ waiting h y)) ≡ xor (odd f (waiting c y)) (xor (odd f (waiting o y)) (odd f (waiting h y)))
+odd-waiting-points f c o h y = odd-append f (waiting c y) _ ∙ ap (xor _) (odd-append f (waiting o y) (waiting h y))
 
 -- what holds of the point, if there is one, holds of all that wait there
 pub waiting-all : (P : Point → Type 0) (x y : ℤ) → (eqZ x far ≡ false → P (record { x = x; y = y })) → (q : Point) → In q (waiting x y) → P q
@@ -198,7 +198,7 @@ next-odd row (p ∷ rest) rises d = go (eqZ (p .y) row) refl d
 
 -- the points to come, the upper corners of those passed and of those ahead, and the three that wait
 pub shows-parts : (f : Point → Bool) (ps rest : List Point) (row c o h : ℤ) (g : ℕ) (A B : List Live) → shows ps (stand rest row c o h g A B) f ≡ xor (odd f rest) (xor (odd f (tops ps A)) (xor (odd f (tops ps B)) (xor (odd f (waiting c row)) (xor (odd f (waiting o row)) (odd f (waiting h row))))))
-shows-parts f ps rest row c o h g A B = ap (λ t. xor (odd f rest) (xor (odd f (tops ps A)) (xor (odd f (tops ps B)) t))) (odd-held f c o h row)
+shows-parts f ps rest row c o h g A B = ap (λ t. xor (odd f rest) (xor (odd f (tops ps A)) (xor (odd f (tops ps B)) t))) (odd-waiting-points f c o h row)
 
 -- where nothing waits and nothing is live, just the points to come
 pub shows-rest : (f : Point → Bool) (ps rest : List Point) (row : ℤ) (g : ℕ) → shows ps (stand rest row far far far g [] []) f ≡ odd f rest

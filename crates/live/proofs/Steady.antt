@@ -23,7 +23,7 @@ use Rattle.rule.specs.Rows.{Accepted}
 use Rattle.rule.proofs.Picks.{after-k, level, right-of, clear, over-make}
 use Rattle.rule.proofs.Toggle.{odd-four}
 use Rattle.rule.proofs.Inside.{holds-rect, marks-four, inside, even-by-rows}
-use Rattle.live.specs.Stands.{after, rectNo}
+use Rattle.live.specs.Stands.{afterSteps, rectNo}
 use Rattle.live.proofs.Numbered.{step-no, sides-no}
 use Rattle.live.proofs.Columns.{is-left, off-row}
 
@@ -168,19 +168,19 @@ module _ {ps : List Point} {k l : Point} {m : ℤ} (c : Picked ps k l m) where
 -- ---- The step with a number
 
 -- on a row between a rectangle's lower and upper side, an even number of the points before its step are left of each column over its width
-pub even-below-top : (ps : List Point) → Accepted ps → (i : ℕ) → i < length (ruleList ps) → (y : ℤ) → ltZ (rectNo ps i .y) y ≡ true → ltZ y (top (rectNo ps i)) ≡ true → (b : ℤ) → leZ (rectNo ps i .x) b ≡ true → leZ b (right (rectNo ps i)) ≡ true → odd (leftOf b y) (after ps i) ≡ false
+pub even-below-top : (ps : List Point) → Accepted ps → (i : ℕ) → i < length (ruleList ps) → (y : ℤ) → ltZ (rectNo ps i .y) y ≡ true → ltZ y (top (rectNo ps i)) ≡ true → (b : ℤ) → leZ (rectNo ps i .x) b ≡ true → leZ b (right (rectNo ps i)) ≡ true → odd (leftOf b y) (afterSteps ps i) ≡ false
 even-below-top ps acc i h y low high b from to =
     let s = step-no ps acc i h in
     let e = sides-no s in
     even-between (s .picked) y (omega order) (omega order) b (omega order) (omega order)
 
 -- on the row of its upper side that is not so
-pub odd-at-top : (ps : List Point) → Accepted ps → (i : ℕ) → i < length (ruleList ps) → ((b : ℤ) → leZ (rectNo ps i .x) b ≡ true → leZ b (right (rectNo ps i)) ≡ true → odd (leftOf b (top (rectNo ps i))) (after ps i) ≡ false) → ⊥
+pub odd-at-top : (ps : List Point) → Accepted ps → (i : ℕ) → i < length (ruleList ps) → ((b : ℤ) → leZ (rectNo ps i .x) b ≡ true → leZ b (right (rectNo ps i)) ≡ true → odd (leftOf b (top (rectNo ps i))) (afterSteps ps i) ≡ false) → ⊥
 odd-at-top ps acc i h even =
     let s = step-no ps acc i h in
     let e = sides-no s in
     let w = right-of (s .picked) in
-    odd-stops (after ps i) (s .k .x) (s .l .x) (s .m) (s .accepted .once) (omega order) (stops-m (s .picked)) (λ b from to. subst (λ (y : ℤ). odd (leftOf b y) (after ps i) ≡ false) (e .3) (even b (omega order) (omega order)))
+    odd-stops (afterSteps ps i) (s .k .x) (s .l .x) (s .m) (s .accepted .once) (omega order) (stops-m (s .picked)) (λ b from to. subst (λ (y : ℤ). odd (leftOf b y) (afterSteps ps i) ≡ false) (e .3) (even b (omega order) (omega order)))
 
 -- what each step keeps, holds from one number up to a later one
 upward : (P : ℕ → Type 0) (i c : ℕ) → i ≤ c → P i → ((j : ℕ) → i ≤ j → j < c → P j → P (j + 1)) → P c
@@ -193,11 +193,11 @@ upward P i (suc c) h start next = go (ℕ-discrete i (suc c)) (λ g. upward P i 
 
 -- on a row above where the steps up to number c begin, and not above the upper side of an earlier rectangle, they leave those numbers as
 -- that rectangle's step did
-pub steady-over : (ps : List Point) → Accepted ps → (i c : ℕ) → i < c → c ≤ length (ruleList ps) → (y : ℤ) → leZ y (top (rectNo ps i)) ≡ true → ((j : ℕ) → j < c → ltZ (rectNo ps j .y) y ≡ true) → (b : ℤ) → leZ (rectNo ps i .x) b ≡ true → leZ b (right (rectNo ps i)) ≡ true → odd (leftOf b y) (after ps c) ≡ odd (leftOf b y) (after ps (i + 1))
+pub steady-over : (ps : List Point) → Accepted ps → (i c : ℕ) → i < c → c ≤ length (ruleList ps) → (y : ℤ) → leZ y (top (rectNo ps i)) ≡ true → ((j : ℕ) → j < c → ltZ (rectNo ps j .y) y ≡ true) → (b : ℤ) → leZ (rectNo ps i .x) b ≡ true → leZ b (right (rectNo ps i)) ≡ true → odd (leftOf b y) (afterSteps ps c) ≡ odd (leftOf b y) (afterSteps ps (i + 1))
 steady-over ps acc i c h few y not-above below b from to = upward Kept (i + 1) c (omega arith) start next .1
   where
     Kept : ℕ → Type 0
-    Kept j = (marks (after ps j) (predℤ b) (predℤ y) ≡ false) × (odd (leftOf b y) (after ps j) ≡ odd (leftOf b y) (after ps (i + 1)))
+    Kept j = (marks (afterSteps ps j) (predℤ b) (predℤ y) ≡ false) × (odd (leftOf b y) (afterSteps ps j) ≡ odd (leftOf b y) (afterSteps ps (i + 1)))
 
     start : Kept (i + 1)
     start =

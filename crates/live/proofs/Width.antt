@@ -16,11 +16,11 @@ use Rattle.rule.specs.Rows.{Accepted}
 use Rattle.rule.proofs.Picks.{level}
 use Rattle.rule.proofs.Toggle.{odd-four}
 use Rattle.live.specs.declared.Live.{Live}
-use Rattle.live.specs.Stands.{after, rectNo, number, endOf, IsLive, tops, far, Stand, stand, waiting, Sweeping}
+use Rattle.live.specs.Stands.{afterSteps, rectNo, number, endOf, IsLive, tops, far, Stand, stand, waiting, Sweeping}
 use Rattle.live.proofs.Numbered.{StepNo, step-no, sides-no}
 use Rattle.live.proofs.Columns.{off-row}
 use Rattle.live.proofs.Steady.{even-below-top, odd-at-top}
-use Rattle.live.proofs.Shown.{odd-far, odd-held, live-listed, live-wide, live-far, odd-tops, tops-none-left, apart-right}
+use Rattle.live.proofs.Shown.{odd-far, odd-waiting-points, live-listed, live-wide, live-far, odd-tops, tops-none-left, apart-right}
 
 -- whether an odd number of the points to come and of two that may wait are left of a column of the row
 abbrev pub leftHere : (b row : ℤ) (rest : List Point) (c o : ℤ) → Bool
@@ -32,7 +32,7 @@ module _ {ps : List Point} (acc : Accepted ps) where
   sides w k m = let l = w .ahead-live k m in (live-wide acc (w .given-few) l, live-far acc (w .given-few) l)
 
   -- on a row above where a live rectangle begins, its step toggles just its upper corners
-  toggles : {g : ℕ} {k : Live} → IsLive ps g k → number k < length (ruleList ps) → (b row : ℤ) → ltZ (k .row) row ≡ true → let f = leftOf b row in odd f (after ps (number k + 1)) ≡ xor (f (record { x = k .left; y = endOf ps k })) (xor (f (record { x = k .right; y = endOf ps k })) (odd f (after ps (number k))))
+  toggles : {g : ℕ} {k : Live} → IsLive ps g k → number k < length (ruleList ps) → (b row : ℤ) → ltZ (k .row) row ≡ true → let f = leftOf b row in odd f (afterSteps ps (number k + 1)) ≡ xor (f (record { x = k .left; y = endOf ps k })) (xor (f (record { x = k .right; y = endOf ps k })) (odd f (afterSteps ps (number k))))
   unfolding endOf
   toggles {k = k} l few b row low =
       let i : ℕ = number k in
@@ -42,20 +42,20 @@ module _ {ps : List Point} (acc : Accepted ps) where
       let row-is = l .row-is in
       let e = level (t .picked) in
       ap (odd f) (t .next-is)
-      ∙ odd-four f (after ps i) (t .k) (t .l) (t .m)
+      ∙ odd-four f (afterSteps ps i) (t .k) (t .l) (t .m)
       ∙ rw (off-row b row (t .k) (omega order), off-row b row (t .l) (omega order), l .left-is, l .right-is, s .2, s .3, s .0) (turn _ _ _)
     where
       turn : (a b r : Bool) → xor a (xor b (xor false (xor false r))) ≡ xor b (xor a r)
       turn a b r = simp (false-xor, xor-left-comm)
 
   -- over its width, the row before the step of the next one ahead is what is to come and what waits
-  over-width : {rest : List Point} {row c o : ℤ} {g : ℕ} {A B : List Live} {k : Live} → Sweeping ps (stand rest row c o far g A (k ∷ B)) → (b : ℤ) → leZ (k .left) b ≡ true → leZ b (k .right) ≡ true → odd (leftOf b row) (after ps (number k)) ≡ leftHere b row rest c o
+  over-width : {rest : List Point} {row c o : ℤ} {g : ℕ} {A B : List Live} {k : Live} → Sweeping ps (stand rest row c o far g A (k ∷ B)) → (b : ℤ) → leZ (k .left) b ≡ true → leZ b (k .right) ≡ true → odd (leftOf b row) (afterSteps ps (number k)) ≡ leftHere b row rest c o
   over-width {rest} {row} {c} {o} {g} {A} {B} {k} w b from to =
       let f : Point → Bool = leftOf b row in
       let l = w .ahead-live k (head refl) in
       let below : odd f (tops ps A) ≡ false = tops-none-left ps b row A (λ j m e. let h = w .passed-over j m in absurd (omega order)) in
       let beside : odd f (tops ps B) ≡ false = tops-none-left ps b row B (λ j m e. let h = apart-right k B A (w .apart) j m in let s = sides w j (tail m) in (omega order, omega order)) in
-      cancel _ _ _ _ _ _ (sym (toggles l (live-listed acc (w .given-few) l) b row (w .ahead-below k (head refl))) ∙ sym (w .steady k (head refl) b from to) ∙ w .shown f ∙ rw (below, odd-tops f ps k B, beside, odd-held f c o far row, odd-far f row))
+      cancel _ _ _ _ _ _ (sym (toggles l (live-listed acc (w .given-few) l) b row (w .ahead-below k (head refl))) ∙ sym (w .steady k (head refl) b from to) ∙ w .shown f ∙ rw (below, odd-tops f ps k B, beside, odd-waiting-points f c o far row, odd-far f row))
     where
       cancel : (a b r s t u : Bool) → xor a (xor b r) ≡ xor s (xor false (xor (xor a (xor b false)) (xor t (xor u false)))) → r ≡ xor s (xor t u)
       cancel a b r s t u e = sym (xor-back b r) ∙ ap (xor b) (sym (xor-back a (xor b r)) ∙ ap (xor a) e) ∙ simp (xor-assoc, xor-left-comm, xor-back, xor-false, false-xor)

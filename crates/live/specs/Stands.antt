@@ -5,7 +5,7 @@ use mathlib.Core.Path.{_≡_}
 use mathlib.Core.Bool.{Bool, true, false, cond, xor}
 use mathlib.Core.List.{List, [], _∷_, _++_, List·Memᴰ as In}
 use lib.ListN.{length}
-use lib.IntN.{ℤ, pos, natAbs}
+use lib.IntN.{ℤ, pos, negℤ, natAbs}
 use lib.Signed.{leZ, ltZ}
 use Rattle.plane.specs.declared.Point.{Point}
 use Rattle.plane.specs.declared.Rect.{Rect}
@@ -17,12 +17,12 @@ use Rattle.live.specs.declared.Live.{Live}
 -- ---- The rule's list by number
 
 -- the points that so many steps of the rule leave
-abbrev pub after : List Point → ℕ → List Point
-after ps i = leftAfter step i ps
+abbrev pub afterSteps : List Point → ℕ → List Point
+afterSteps ps i = leftAfter step i ps
 
 -- the rectangle with this number in the list
 unfoldable pub rectNo : List Point → ℕ → Rect
-rectNo ps i = step (after ps i) .rect
+rectNo ps i = step (afterSteps ps i) .rect
 
 -- ---- Live rectangles
 
@@ -58,6 +58,10 @@ pub data Apart : List Live → Type 0 where
 abbrev pub far : ℤ
 far = pos 2_000_000_000
 
+-- below every coordinate: where a sweep starts
+abbrev pub firstRow : ℤ
+firstRow = negℤ far
+
 -- the points to come in order; the row; on it the right end of the rectangle cut last, the left end of one that begins, and a point that
 -- is in hand (each far where there is none); how many rectangles have begun; and the live ones, left of where the sweep is and right of it
 pub record Stand : Type 0 where
@@ -75,12 +79,12 @@ abbrev pub waiting : (x y : ℤ) → List Point
 waiting x y = cond (eqZ x far) [] (record { x = x; y = y } ∷ [])
 
 -- the points that wait on the row
-abbrev pub held : Stand → List Point
-held s = waiting (s .carried) (s .row) ++ (waiting (s .opened) (s .row) ++ waiting (s .hand) (s .row))
+abbrev pub waitingPoints : Stand → List Point
+waitingPoints s = waiting (s .carried) (s .row) ++ (waiting (s .opened) (s .row) ++ waiting (s .hand) (s .row))
 
 -- whether an odd number of the points to come, the upper corners of live rectangles and the points that wait pass a test
 abbrev pub shows : List Point → Stand → (Point → Bool) → Bool
-shows ps s f = xor (odd f (s .rest)) (xor (odd f (tops ps (s .passed))) (xor (odd f (tops ps (s .ahead))) (odd f (held s))))
+shows ps s f = xor (odd f (s .rest)) (xor (odd f (tops ps (s .passed))) (xor (odd f (tops ps (s .ahead))) (odd f (waitingPoints s))))
 
 -- x is left of all points and live rectangles that are yet to come on the row
 pub record Before (s : Stand) (x : ℤ) : Type 0 where
@@ -95,7 +99,7 @@ pub record Sweeping (ps : List Point) (s : Stand) : Type 0 where
   pub rest-from : (q : Point) → In q (s .rest) → leZ (s .row) (q .y) ≡ true
   pub rest-all : (q : Point) → In q ps → ltZ (s .row) (q .y) ≡ true → In q (s .rest)
   -- what the rule has left after so many steps is what the sweep shows
-  pub shown : (f : Point → Bool) → odd f (after ps (s .given)) ≡ shows ps s f
+  pub shown : (f : Point → Bool) → odd f (afterSteps ps (s .given)) ≡ shows ps s f
   -- the rectangles that have begun, begin at or below the row; the live ones are of them
   pub begun : (i : ℕ) → i < s .given → leZ (rectNo ps i .y) (s .row) ≡ true
   pub given-few : s .given ≤ length (ruleList ps)
@@ -106,7 +110,7 @@ pub record Sweeping (ps : List Point) (s : Stand) : Type 0 where
   pub ahead-below : (k : Live) → In k (s .ahead) → ltZ (k .row) (s .row) ≡ true
   pub ahead-over : (k : Live) → In k (s .ahead) → leZ (s .row) (endOf ps k) ≡ true
   -- over the width of one ahead, the row is as the rule left it after that rectangle
-  pub steady : (k : Live) → In k (s .ahead) → (b : ℤ) → leZ (k .left) b ≡ true → leZ b (k .right) ≡ true → odd (leftOf b (s .row)) (after ps (s .given)) ≡ odd (leftOf b (s .row)) (after ps (number k + 1))
+  pub steady : (k : Live) → In k (s .ahead) → (b : ℤ) → leZ (k .left) b ≡ true → leZ b (k .right) ≡ true → odd (leftOf b (s .row)) (afterSteps ps (s .given)) ≡ odd (leftOf b (s .row)) (afterSteps ps (number k + 1))
   -- from left to right: those passed; the left end that is open; the point in hand; the rest of the row and those ahead; and the right
   -- end that is carried is not right of those ahead
   pub apart : Apart (s .passed ++ s .ahead)

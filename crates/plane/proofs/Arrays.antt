@@ -10,7 +10,7 @@ use lib.Seq.{take-suc, take-all, take-at}
 use lib.IntN.{ℤ, pos}
 use Rattle.plane.specs.declared.Point.{Point}
 use Rattle.plane.specs.declared.Rect.{Rect}
-use Rattle.plane.specs.Words.{origin, pointsOf, flatPoints, rectsOf, flatRects}
+use Rattle.plane.specs.Words.{origin, pointsOf, flatPoints, rectSize, foursOf, rectsOf, flatRects}
 
 -- ---- Points
 
@@ -85,52 +85,75 @@ points-start a =
     let e : a ≡ flatPoints ps ++ drop (2 * n) a = rw (take-all n ps (omega (arith, length-points a))) at (points-rest n a (omega arith)) in
     ap (take (2 * n)) e ∙ take-at (flatPoints ps) (drop (2 * n) a) (2 * n) (omega (arith, length-flat-points ps, length-points a))
 
--- ---- Rectangles
-
--- an array has a quarter as many rectangles as numbers
-pub length-rects : (a : List ℤ) → length (rectsOf a) ≡ length a / 4
-unfolding rectsOf
-length-rects [] = refl
-length-rects (x ∷ []) = refl
-length-rects (x ∷ y ∷ []) = refl
-length-rects (x ∷ y ∷ w ∷ []) = refl
-length-rects (x ∷ y ∷ w ∷ h ∷ rest) = let i = length-rects rest in omega arith
+-- ---- Items of four numbers
 
 -- four numbers more for one place more
 four-suc : (i : ℕ) → 4 * suc i ≡ suc (suc (suc (suc (4 * i))))
 four-suc i = omega arith
 
--- the rectangle at place i has the four numbers from 4i on
-pub rect-numbers : (a : List ℤ) (i : ℕ) → 4 * i + 3 < length a → getD (rectsOf a) i (record { x = pos 0; y = pos 0; w = pos 0; h = pos 0 }) ≡ record { x = getD a (4 * i) (pos 0); y = getD a (4 * i + 1) (pos 0); w = getD a (4 * i + 2) (pos 0); h = getD a (4 * i + 3) (pos 0) }
-unfolding rectsOf
-rect-numbers [] i l = absurd (omega arith)
-rect-numbers (x ∷ []) i l = absurd (omega arith)
-rect-numbers (x ∷ y ∷ []) i l = absurd (omega arith)
-rect-numbers (x ∷ y ∷ w ∷ []) i l = absurd (omega arith)
-rect-numbers (x ∷ y ∷ w ∷ h ∷ rest) zero l = refl
-rect-numbers (x ∷ y ∷ w ∷ h ∷ rest) (suc i) l = simp (four-suc, suc-add) (rect-numbers rest i (omega arith))
+module _ {A : Type 0} (make : ℤ → ℤ → ℤ → ℤ → A) where
+  -- an array has a quarter as many as numbers
+  pub length-fours : (a : List ℤ) → length (foursOf make a) ≡ length a / 4
+  unfolding foursOf
+  length-fours [] = refl
+  length-fours (x ∷ []) = refl
+  length-fours (x ∷ y ∷ []) = refl
+  length-fours (x ∷ y ∷ w ∷ []) = refl
+  length-fours (x ∷ y ∷ w ∷ h ∷ rest) = let i = length-fours rest in omega arith
 
--- rectangles as an array are four times as many numbers
-pub length-flat-rects : (rs : List Rect) → length (flatRects rs) ≡ 4 * length rs
+  -- the one at place i is made of the four numbers from 4i on
+  pub four-numbers : (a : List ℤ) (i : ℕ) (d : A) → 4 * i + 3 < length a → getD (foursOf make a) i d ≡ make (getD a (4 * i) (pos 0)) (getD a (4 * i + 1) (pos 0)) (getD a (4 * i + 2) (pos 0)) (getD a (4 * i + 3) (pos 0))
+  unfolding foursOf
+  four-numbers [] i d l = absurd (omega arith)
+  four-numbers (x ∷ []) i d l = absurd (omega arith)
+  four-numbers (x ∷ y ∷ []) i d l = absurd (omega arith)
+  four-numbers (x ∷ y ∷ w ∷ []) i d l = absurd (omega arith)
+  four-numbers (x ∷ y ∷ w ∷ h ∷ rest) zero d l = refl
+  four-numbers (x ∷ y ∷ w ∷ h ∷ rest) (suc i) d l = simp (four-suc, suc-add) (four-numbers rest i d (omega arith))
+
+  -- four numbers set from 4i on are one set at i
+  pub fours-set : (a : List ℤ) (i : ℕ) (p q r s : ℤ) → 4 * i + 3 < length a → foursOf make (set (set (set (set a (4 * i) p) (4 * i + 1) q) (4 * i + 2) r) (4 * i + 3) s) ≡ set (foursOf make a) i (make p q r s)
+  unfolding foursOf
+  fours-set [] i p q r s l = absurd (omega arith)
+  fours-set (x ∷ []) i p q r s l = absurd (omega arith)
+  fours-set (x ∷ y ∷ []) i p q r s l = absurd (omega arith)
+  fours-set (x ∷ y ∷ w ∷ []) i p q r s l = absurd (omega arith)
+  fours-set (x ∷ y ∷ w ∷ h ∷ rest) zero p q r s l = refl
+  fours-set (x ∷ y ∷ w ∷ h ∷ rest) (suc i) p q r s l = simp (four-suc, suc-add) (ap (λ (m : List A). make x y w h ∷ m) (fours-set rest i p q r s (omega arith)))
+
+-- ---- Rectangles
+
+-- an array has a quarter as many rectangles as numbers
+pub length-rects : (a : List ℤ) → length (rectsOf a) ≡ length a / rectSize
+unfolding rectsOf
+length-rects a = length-fours _ a
+
+-- the rectangle at place i has the four numbers from 4i on
+pub rect-numbers : (a : List ℤ) (i : ℕ) → rectSize * i + 3 < length a → getD (rectsOf a) i (record { x = pos 0; y = pos 0; w = pos 0; h = pos 0 }) ≡ record { x = getD a (rectSize * i) (pos 0); y = getD a (rectSize * i + 1) (pos 0); w = getD a (rectSize * i + 2) (pos 0); h = getD a (rectSize * i + 3) (pos 0) }
+unfolding rectsOf
+rect-numbers a i l = four-numbers _ a i _ l
+
+-- rectangles as an array are so many times as many numbers
+pub length-flat-rects : (rs : List Rect) → length (flatRects rs) ≡ rectSize * length rs
 unfolding flatRects
 length-flat-rects [] = refl
 length-flat-rects (r ∷ rs) = let h = length-flat-rects rs in omega arith
 
--- rectangles written as an array are read back
-pub rects-flat : (rs : List Rect) → rectsOf (flatRects rs) ≡ rs
-unfolding rectsOf flatRects
-rects-flat [] = refl
-rects-flat (r ∷ rs) = ap (λ l. r ∷ l) (rects-flat rs)
-
 -- rectangles at the start of an array are its first rectangles
 pub rects-append : (rs : List Rect) (rest : List ℤ) → rectsOf (flatRects rs ++ rest) ≡ rs ++ rectsOf rest
-unfolding rectsOf flatRects
+unfolding rectsOf foursOf flatRects
 rects-append [] rest = refl
 rects-append (r ∷ rs) rest = ap (λ l. r ∷ l) (rects-append rs rest)
 
+-- rectangles written as an array are read back
+pub rects-flat : (rs : List Rect) → rectsOf (flatRects rs) ≡ rs
+unfolding rectsOf foursOf flatRects
+rects-flat [] = refl
+rects-flat (r ∷ rs) = ap (λ l. r ∷ l) (rects-flat rs)
+
 -- an array is its first rectangles and the rest
-pub rects-rest : (n : ℕ) (a : List ℤ) → 4 * n ≤ length a → a ≡ flatRects (take n (rectsOf a)) ++ drop (4 * n) a
-unfolding rectsOf flatRects
+pub rects-rest : (n : ℕ) (a : List ℤ) → rectSize * n ≤ length a → a ≡ flatRects (take n (rectsOf a)) ++ drop (rectSize * n) a
+unfolding rectsOf foursOf flatRects
 rects-rest zero a h = refl
 rects-rest (suc n) [] h = absurd (omega arith)
 rects-rest (suc n) (x ∷ []) h = absurd (omega arith)
@@ -139,11 +162,6 @@ rects-rest (suc n) (x ∷ y ∷ w ∷ []) h = absurd (omega arith)
 rects-rest (suc n) (x ∷ y ∷ w ∷ t ∷ rest) h = rw (four-suc n) (ap (λ (l : List ℤ). x ∷ y ∷ w ∷ t ∷ l) (rects-rest n rest (omega arith)))
 
 -- four numbers set from 4i on are a rectangle set at i
-pub rects-set : (a : List ℤ) (i : ℕ) (r : Rect) → 4 * i + 3 < length a → rectsOf (set (set (set (set a (4 * i) (r .x)) (4 * i + 1) (r .y)) (4 * i + 2) (r .w)) (4 * i + 3) (r .h)) ≡ set (rectsOf a) i r
+pub rects-set : (a : List ℤ) (i : ℕ) (r : Rect) → rectSize * i + 3 < length a → rectsOf (set (set (set (set a (rectSize * i) (r .x)) (rectSize * i + 1) (r .y)) (rectSize * i + 2) (r .w)) (rectSize * i + 3) (r .h)) ≡ set (rectsOf a) i r
 unfolding rectsOf
-rects-set [] i r l = absurd (omega arith)
-rects-set (x ∷ []) i r l = absurd (omega arith)
-rects-set (x ∷ y ∷ []) i r l = absurd (omega arith)
-rects-set (x ∷ y ∷ w ∷ []) i r l = absurd (omega arith)
-rects-set (x ∷ y ∷ w ∷ h ∷ rest) zero r l = refl
-rects-set (x ∷ y ∷ w ∷ h ∷ rest) (suc i) r l = simp (four-suc, suc-add) (ap (λ (m : List Rect). record { x = x; y = y; w = w; h = h } ∷ m) (rects-set rest i r (omega arith)))
+rects-set a i r l = fours-set _ a i (r .x) (r .y) (r .w) (r .h) l

@@ -98,21 +98,21 @@ inOrder (p ∷ ps) = insert p (inOrder ps)
 
 -- ---- Rectangles
 
--- the most rectangles that backward takes
-abbrev pub mostRects : ℕ
-mostRects = 16384
-
--- how many numbers of an array a rectangle has
+-- how many numbers a rectangle has in an array
 abbrev pub rectSize : ℕ
 rectSize = 4
 
+-- what is made of an array's numbers, four by four
+unfoldable pub foursOf : {A : Type 0} → (ℤ → ℤ → ℤ → ℤ → A) → List ℤ → List A
+foursOf make [] = []
+foursOf make (x ∷ []) = []
+foursOf make (x ∷ y ∷ []) = []
+foursOf make (x ∷ y ∷ w ∷ []) = []
+foursOf make (x ∷ y ∷ w ∷ h ∷ rest) = make x y w h ∷ foursOf make rest
+
 -- the rectangles of an array: X, Y, W, H, rectangle after rectangle
 unfoldable pub rectsOf : List ℤ → List Rect
-rectsOf [] = []
-rectsOf (x ∷ []) = []
-rectsOf (x ∷ y ∷ []) = []
-rectsOf (x ∷ y ∷ w ∷ []) = []
-rectsOf (x ∷ y ∷ w ∷ h ∷ rest) = record { x = x; y = y; w = w; h = h } ∷ rectsOf rest
+rectsOf a = foursOf (λ x y w h. record { x = x; y = y; w = w; h = h }) a
 
 -- the rectangle at a place, and zeros where there is none
 abbrev pub rectAt : List Rect → ℕ → Rect

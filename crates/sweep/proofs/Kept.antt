@@ -1,5 +1,5 @@
 -- Working arrays of which only the start is changed, and the start zeroed.
-use Prim.Native.Nat.{ℕ, _+_, _-_, _*_, _<_, _≤_}
+use Prim.Native.Nat.{ℕ, _+_, _-_, _*_, _≤_}
 use native.Mathlib.Nat.{sub-zero}
 use native.Mathlib.Omega.{arith}
 use mathlib.Core.Path.{_≡_, refl, sym, ap, _∙_}
@@ -8,10 +8,11 @@ use lib.ListN.{drop}
 use lib.Seq.{drop-drop}
 use lib.IntN.{ℤ}
 use Rattle.plane.specs.declared.Rect.{Rect}
-use Rattle.plane.specs.Words.{flatPoints}
+use Rattle.plane.specs.Words.{flatPoints, rectSize}
 use Rattle.rule.specs.Answers.{workOf}
-use Rattle.sweep.specs.Inner.{putRect, KeptPast, zeroed}
-use Rattle.sweep.proofs.Lives.{length-put-rect, drop-put-rect}
+use Rattle.live.specs.declared.Live.{Live}
+use Rattle.sweep.specs.Inner.{putFour, putRect, liveSize, putLive, KeptPast, zeroed}
+use Rattle.sweep.proofs.Lives.{length-put, drop-put}
 
 -- an array is kept as it was
 pub kept-all : {n : ℕ} {a : List ℤ} → KeptPast n a a
@@ -29,10 +30,18 @@ kept-further {m} {n} {before} {after} h k = record { same-length = k .same-lengt
     further l = let e : n ≡ m + (n - m) = omega arith in ap (λ (i : ℕ). drop i l) e ∙ sym (drop-drop (n - m) m l)
 
 -- four numbers put at a place change only what is up to them
-pub kept-put : (n : ℕ) (a : List ℤ) (i : ℕ) (r : Rect) → 4 * i + 3 < n → KeptPast n a (putRect a i r)
-kept-put n a i r h = record { same-length = length-put-rect a i r; same-past = drop-put-rect n a i r h }
+kept-four : (n : ℕ) (a : List ℤ) (i : ℕ) (p q r s : ℤ) → i + 4 ≤ n → KeptPast n a (putFour a i p q r s)
+kept-four n a i p q r s h = record { same-length = length-put a i p q r s; same-past = drop-put a i p q r s n h }
+
+-- so does a rectangle
+pub kept-rect : (n : ℕ) (a : List ℤ) (i : ℕ) (r : Rect) → rectSize * (i + 1) ≤ n → KeptPast n a (putRect a i r)
+kept-rect n a i r h = kept-four n a (rectSize * i) (r .x) (r .y) (r .w) (r .h) (omega arith)
+
+-- and a live one
+pub kept-live : (n : ℕ) (a : List ℤ) (i : ℕ) (k : Live) → liveSize * (i + 1) ≤ n → KeptPast n a (putLive a i k)
+kept-live n a i k h = kept-four n a (liveSize * i) (k .left) (k .right) (k .row) (k .place) (omega arith)
 
 -- with its start zeroed it holds no points
-pub kept-drained : (n : ℕ) {m : ℕ} {before after : List ℤ} → m ≡ n → KeptPast (2 * n) before after → zeroed (2 * m) after ≡ workOf n [] before
+pub kept-drained : {l m n : ℕ} {before after : List ℤ} → l ≡ n → m ≡ n → KeptPast (2 * l) before after → zeroed (2 * m) after ≡ workOf n [] before
 unfolding workOf flatPoints
-kept-drained n e k = rw (e, k .same-past, sub-zero n)
+kept-drained {n = n} d e k = let p = rw d at (k .same-past) in rw (e, p, sub-zero n)

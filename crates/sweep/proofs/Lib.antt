@@ -1,6 +1,7 @@
 pub mod Lives
 pub mod Kept
 pub mod Places
+pub mod InOrder
 pub mod Turning
 pub mod Going
 pub mod Taking

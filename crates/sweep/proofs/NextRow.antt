@@ -1,7 +1,7 @@
 -- A sweep whose row is done turns to the next point's row, or ends where no point is to come.
 use mathlib.Core.Path.{_≡_, refl, sym, ap, subst, _∙_}
 use mathlib.Core.Logic.{_⊎_, inl, inr}
-use Prim.Native.Nat.{ℕ, zero, suc, _+_, _-_, _*_, _/_, _<_, _≤_}
+use Prim.Native.Nat.{ℕ, zero, suc, _+_, _-_, _<_, _≤_}
 use native.Mathlib.Omega.{arith}
 use mathlib.Core.Bool.{true, false}
 use mathlib.Core.List.{List, [], _∷_, _++_, append-assoc, List·Memᴰ as In, List·Memᴰ·head as head, List·Memᴰ·not-nil as not-nil}
@@ -11,7 +11,7 @@ use lib.IntN.{ℤ}
 use lib.Signed.{leZ, ltZ}
 use Rattle.plane.specs.declared.Point.{Point}
 use Rattle.plane.specs.Lists.{bit}
-use Rattle.plane.specs.Words.{eqZ, pointsOf}
+use Rattle.plane.specs.Words.{eqZ}
 use Rattle.plane.proofs.Sums.{all-last-added}
 use Rattle.plane.proofs.Bools.{by-no}
 use Rattle.plane.proofs.Order.{order, eqZ-is, eqZ-refl}
@@ -21,9 +21,9 @@ use Rattle.live.specs.Stands.{far, nextOn, stand, Apart, Sweeping}
 use Rattle.live.proofs.Shown.{point-far, live-wide, apart-left}
 use Rattle.live.proofs.Crossing.{turns, ends}
 use Rattle.sweep.specs.declared.Sweep.{Sweep}
-use Rattle.sweep.specs.Inner.{livesOf, liveAt, KeptPast, Turned, roomFor, restOf, passedIn, aheadIn, Underway, GoesOn, AllGiven}
-use Rattle.sweep.proofs.Lives.{length-lives, noLive, live-at}
-use Rattle.sweep.proofs.Kept.{kept-further}
+use Rattle.sweep.specs.Inner.{livesOf, zeroLive, liveAt, Turned, roomFor, restOf, passedIn, aheadIn, Underway, GoesOn, AllGiven}
+use Rattle.sweep.proofs.Lives.{length-lives}
+use Rattle.sweep.proofs.Kept.{kept-all, kept-further}
 use Rattle.sweep.proofs.Places.{nextOf}
 use Rattle.sweep.proofs.Going.{there-most, room-half}
 
@@ -39,10 +39,10 @@ same-order l l′ p p′ h h′ back m fewer more within most again =
     let passed : take p l ≡ take p′ l ++ X = rw (← fewer) (take-add p′ back l) in
     rw (ahead, passed) (sym (append-assoc (take p′ l) X (drop h (take m l))))
 
-module _ {a work : List ℤ} {z : Sweep} (u : Underway a work z) where
+module _ {qs : List Point} {work : List ℤ} {z : Sweep} (u : Underway qs work z far) where
   -- the array has all those that are passed
   passed-few : z .passed ≤ length (livesOf work)
-  passed-few = omega (arith, length-lives work, u .passed-within, u .ahead-within, u .working)
+  passed-few = omega (arith, length-lives work, u .passed-within, u .ahead-within, u .ready .working)
 
   -- of those passed, all up to one that is left of a point are left of it
   still-left : (p : Point) (n : ℕ) → n ≤ z .passed → (n ≡ 0) ⊎ (leZ (liveAt work (n - 1) .right) (p .x) ≡ true) → (k : Live) → In k (take n (livesOf work)) → leZ (k .right) (p .x) ≡ true
@@ -51,7 +51,7 @@ module _ {a work : List ℤ} {z : Sweep} (u : Underway a work z) where
   still-left p (suc i) h (inr left) k m =
       let many : i < length l = omega (arith, passed-few) in
       let last : leZ (x .right) (p .x) ≡ true = let e : suc i - 1 ≡ i = omega arith in rw e at left in
-      all-last-added (λ j. leZ (j .right) (p .x) ≡ true) (take i l) x (λ j n. omega (order, apart-left x _ (take i l) rising j n, wide)) last k (subst (λ (r : List Live). In k r) (take-suc l i noLive many ∙ rw (live-at work i)) m)
+      all-last-added (λ j. leZ (j .right) (p .x) ≡ true) (take i l) x (λ j n. omega (order, apart-left x _ (take i l) rising j n, wide)) last k (subst (λ (r : List Live). In k r) (take-suc l i zeroLive many) m)
     where
       l : List Live
       l = livesOf work
@@ -65,99 +65,108 @@ module _ {a work : List ℤ} {z : Sweep} (u : Underway a work z) where
       few : i < length A
       few = omega (arith, length-take-le (z .passed) l passed-few)
 
-      at : getD A i noLive ≡ x
-      at = getD-take (z .passed) l i noLive (omega arith) ∙ live-at work i
+      at : getD A i zeroLive ≡ x
+      at = getD-take (z .passed) l i zeroLive (omega arith)
 
       wide : ltZ (x .left) (x .right) ≡ true
-      wide = live-wide (u .points) (u .sweeping .given-few) (u .sweeping .passed-live x (subst (λ j. In j A) at (in-at A i noLive few)))
+      wide = live-wide (u .ready .points) (u .sweeping .given-few) (u .sweeping .passed-live x (subst (λ j. In j A) at (in-at A i zeroLive few)))
 
-      rising : Apart (take i l ++ (x ∷ (drop (suc i) A ++ aheadIn a work z)))
+      rising : Apart (take i l ++ (x ∷ (drop (suc i) A ++ aheadIn qs work z)))
       rising =
-          let parts : A ≡ take i l ++ (x ∷ drop (suc i) A) = split-at A i noLive few ∙ rw (at, take-take i (z .passed) l (omega arith)) in
-          subst Apart (ap (λ (r : List Live). r ++ aheadIn a work z) parts ∙ append-assoc (take i l) (x ∷ drop (suc i) A) (aheadIn a work z)) (u .sweeping .apart)
+          let parts : A ≡ take i l ++ (x ∷ drop (suc i) A) = split-at A i zeroLive few ∙ rw (at, take-take i (z .passed) l (omega arith)) in
+          subst Apart (ap (λ (r : List Live). r ++ aheadIn qs work z) parts ∙ append-assoc (take i l) (x ∷ drop (suc i) A) (aheadIn qs work z)) (u .sweeping .apart)
 
   -- ---- The next row
 
   -- turned to the next point's row
-  goes-turned : (p : Point) (later : List Point) → restOf a z ≡ p ∷ later → eqZ (p .y) (z .row) ≡ false → eqZ (z .carried) far ≡ true → {r : Sweep} {after : List ℤ} → Turned p z work r after → GoesOn a z work r after × KeptPast (2 * (length a / 2)) work after
+  goes-turned : (p : Point) (later : List Point) → restOf qs z ≡ p ∷ later → eqZ (p .y) (z .row) ≡ false → eqZ (z .carried) far ≡ true → {r : Sweep} {after : List ℤ} → Turned p z work r after → GoesOn qs z work r after
   goes-turned p later e off none {r} {after} t =
-      let half = room-half a (u .points) in
+      let half = room-half qs (u .ready .points) in
       let within = u .ahead-within in
       let fit = u .passed-within in
       let fewer = t .fewer in
-      let more = t .more in (
-        subst (λ (s : Sweep). GoesOn a z work s after) (sym (t .at-row)) (record {
-          underway = record {
-            points = u .points;
-            few = u .few;
-            working = rw (t .kept-past .same-length) (u .working);
-            next-within = u .next-within;
-            passed-within = omega arith;
-            ahead-within = omega arith;
-            carried-near = u .carried-near;
-            room = let m = u .room in omega arith;
-            sweeping = rw (t .still-passed, e, c, v .0) (v .1);
-          };
-          less = omega (arith, not-here, here, u .few, there-most (z .carried));
-          balance = λ w. rw (t .still-passed, same-lives);
-        }),
-        kept-further (omega arith) (t .kept-past),
-      )
+      let more = t .more in
+      subst (λ (s : Sweep). GoesOn qs z work s after) (sym (t .at-row)) (record {
+        kept = kept-further (omega arith) (t .kept-past);
+        underway = record {
+          ready = rw (t .kept-past .same-length) (u .ready);
+          next-within = u .next-within;
+          passed-within = omega arith;
+          ahead-within = omega arith;
+          carried-near = u .carried-near;
+          room = let m = u .room in omega arith;
+          sweeping = rw (t .still-passed, e, c, v .0) (v .1);
+        };
+        less = omega (arith, not-here, here, u .ready .few, there-most (z .carried));
+        balance = λ w. rw (t .still-passed, same-lives);
+      })
     where
       C : List Live
       C = take (r .passed) (livesOf work)
 
       D : List Live
-      D = drop (r .ahead) (take (roomFor a) (livesOf after))
+      D = drop (r .ahead) (take (roomFor qs) (livesOf after))
 
-      same-lives : C ++ D ≡ passedIn work z ++ aheadIn a work z
-      same-lives = same-order (livesOf work) (livesOf after) (z .passed) (r .passed) (z .ahead) (r .ahead) (t .back) (roomFor a) (t .fewer) (t .more) passed-few (u .ahead-within) (t .ahead-again)
+      same-lives : C ++ D ≡ passedIn work z ++ aheadIn qs work z
+      same-lives = same-order (livesOf work) (livesOf after) (z .passed) (r .passed) (z .ahead) (r .ahead) (t .back) (roomFor qs) (t .fewer) (t .more) passed-few (u .ahead-within) (t .ahead-again)
 
       c : z .carried ≡ far
       c = eqZ-is (z .carried) far none
 
-      w : Sweeping (pointsOf a) (stand (p ∷ later) (z .row) far (z .opened) far (z .given) (passedIn work z) (aheadIn a work z))
+      w : Sweeping qs (stand (p ∷ later) (z .row) far (z .opened) far (z .given) (passedIn work z) (aheadIn qs work z))
       w = rw (e, c) at (u .sweeping)
 
-      v : (z .opened ≡ far) × Sweeping (pointsOf a) (stand (p ∷ later) (p .y) far far far (z .given) C D)
-      v = turns (u .points) w off C D same-lives (still-left p (r .passed) (omega (arith, t .fewer)) (t .last-left))
+      v : (z .opened ≡ far) × Sweeping qs (stand (p ∷ later) (p .y) far far far (z .given) C D)
+      v = turns (u .ready .points) w off C D same-lives (still-left p (r .passed) (omega (arith, t .fewer)) (t .last-left))
 
-      not-here : bit (eqZ (nextOn (z .row) (restOf a z)) far) ≡ 1
+      not-here : bit (eqZ (nextOn (z .row) (restOf qs z)) far) ≡ 1
       not-here = rw (e, off, eqZ-refl far)
 
-      here : bit (eqZ (nextOn (p .y) (restOf a z)) far) ≡ 0
+      here : bit (eqZ (nextOn (p .y) (restOf qs z)) far) ≡ 0
       here = let n : eqZ (p .x) far ≡ false = let l = point-far p (w .rest-range p (head refl)) in omega order in rw (e, eqZ-refl (p .y), n)
 
   -- ---- The end
 
   -- with no point to come, the list is whole
-  goes-no-further : restOf a z ≡ [] → eqZ (z .carried) far ≡ true → AllGiven a z work
+  goes-no-further : restOf qs z ≡ [] → eqZ (z .carried) far ≡ true → AllGiven qs z work work
   goes-no-further e none =
-      let w : Sweeping (pointsOf a) (stand [] (z .row) far (z .opened) far (z .given) (passedIn work z) (aheadIn a work z)) = rw (e, eqZ-is (z .carried) far none) at (u .sweeping) in
-      let d = ends (u .points) w in
-      record { none-live = d .1; all-begun = d .2 }
+      let w : Sweeping qs (stand [] (z .row) far (z .opened) far (z .given) (passedIn work z) (aheadIn qs work z)) = rw (e, eqZ-is (z .carried) far none) at (u .sweeping) in
+      let d = ends (u .ready .points) w in
+      record { kept = kept-all; none-live = d .1; all-begun = d .2 }
 
-  -- ---- Nothing is to come on the row
+-- ---- Nothing is to come on the row
 
-  module _ (p t : Point) (first : p ≡ nextOf (restOf a z)) (at : t .x ≡ nextOn (z .row) (restOf a z)) (same : eqZ (t .x) (z .carried) ≡ true) (none : eqZ (t .x) far ≡ true) where
-    -- where there is a next point, the sweep turns to its row
-    pub turns-on : eqZ (p .x) far ≡ false → {r : Sweep} {after : List ℤ} → Turned p z work r after → GoesOn a z work r after × KeptPast (2 * (length a / 2)) work after
-    turns-on some {r} {after} turned = go (restOf a z) refl
-      where
-        go : (rest : List Point) → restOf a z ≡ rest → GoesOn a z work r after × KeptPast (2 * (length a / 2)) work after
-        go [] e = let d : p .x ≡ far = ap (λ (q : Point). q .x) (first ∙ ap nextOf e) in absurd (omega order)
-        go (q ∷ later) e =
-            let d : p ≡ q = first ∙ ap nextOf e in
-            let off : eqZ (p .y) (z .row) ≡ false = by-no (eqZ (p .y) (z .row)) (λ f. let n : t .x ≡ p .x = at ∙ rw (e, ← d, f) in absurd (omega order)) in
-            goes-turned p later (e ∙ ap (λ (h : Point). h ∷ later) (sym d)) off (omega order) turned
+-- a sweep under way, with the next point p and t that of the row, has neither t nor a right end to put
+pub record RowDone (qs : List Point) (work : List ℤ) (z : Sweep) (p t : Point) : Type 0 where
+  pub underway : Underway qs work z far
+  pub next-is : p ≡ nextOf (restOf qs z)
+  pub at-next : t .x ≡ nextOn (z .row) (restOf qs z)
+  pub none-waits : eqZ (t .x) (z .carried) ≡ true
+  pub none-there : eqZ (t .x) far ≡ true
 
-    -- where there is none, it ends
-    pub stops : eqZ (p .x) far ≡ true → AllGiven a z work
-    stops gone = go (restOf a z) refl
-      where
-        go : (rest : List Point) → restOf a z ≡ rest → AllGiven a z work
-        go [] e = goes-no-further e (omega order)
-        go (q ∷ later) e =
-            let d : p .x ≡ q .x = ap (λ (h : Point). h .x) (first ∙ ap nextOf e) in
-            let l = point-far q (u .sweeping .rest-range q (subst (λ (rest : List Point). In q rest) (sym e) (head refl))) in
-            absurd (omega order)
+module _ {qs : List Point} {work : List ℤ} {z : Sweep} {p t : Point} (d : RowDone qs work z p t) where
+  -- none is carried
+  none : eqZ (z .carried) far ≡ true
+  none = let same = d .none-waits in let far-off = d .none-there in omega order
+
+  -- where there is a next point, the sweep turns to its row
+  pub turns-on : eqZ (p .x) far ≡ false → {r : Sweep} {after : List ℤ} → Turned p z work r after → GoesOn qs z work r after
+  turns-on some {r} {after} turned = go (restOf qs z) refl
+    where
+      go : (rest : List Point) → restOf qs z ≡ rest → GoesOn qs z work r after
+      go [] e = let f : p .x ≡ far = ap (λ (q : Point). q .x) (d .next-is ∙ ap nextOf e) in absurd (omega order)
+      go (q ∷ later) e =
+          let f : p ≡ q = d .next-is ∙ ap nextOf e in
+          let off : eqZ (p .y) (z .row) ≡ false = by-no (eqZ (p .y) (z .row)) (λ on. let n : t .x ≡ p .x = d .at-next ∙ rw (e, ← f, on) in let gone = d .none-there in absurd (omega order)) in
+          goes-turned (d .underway) p later (e ∙ ap (λ (h : Point). h ∷ later) (sym f)) off none turned
+
+  -- where there is none, it ends
+  pub stops : eqZ (p .x) far ≡ true → AllGiven qs z work work
+  stops gone = go (restOf qs z) refl
+    where
+      go : (rest : List Point) → restOf qs z ≡ rest → AllGiven qs z work work
+      go [] e = goes-no-further (d .underway) e none
+      go (q ∷ later) e =
+          let f : p .x ≡ q .x = ap (λ (h : Point). h .x) (d .next-is ∙ ap nextOf e) in
+          let l = point-far q (d .underway .sweeping .rest-range q (subst (λ (rest : List Point). In q rest) (sym e) (head refl))) in
+          absurd (omega order)

@@ -1,8 +1,8 @@
 -- The live rectangles that a sweep has passed and those ahead, and the point that is next: what stands where, and what one put at a place
 -- changes.
-use mathlib.Core.Path.{_≡_, refl, sym, ap, _∙_}
+use mathlib.Core.Path.{_≡_, refl, sym}
 use mathlib.Core.Logic.{_⊎_, inl, inr}
-use Prim.Native.Nat.{ℕ, _+_, _*_, _/_, _<_, _≤_}
+use Prim.Native.Nat.{ℕ, _+_, _*_, _<_, _≤_}
 use native.Mathlib.Numerals.{add-one}
 use native.Mathlib.Omega.{arith}
 use mathlib.Core.Bool.{Bool, true, false, cond}
@@ -13,21 +13,18 @@ use lib.IntN.{ℤ}
 use lib.Dec.{ltb}
 use borrow.Author.Tests.{ltb-true, ltb-false}
 use Rattle.plane.specs.declared.Point.{Point}
-use Rattle.plane.specs.Words.{origin, eqZ, pointsOf, inOrder, pointAt}
+use Rattle.plane.specs.Words.{origin, eqZ, pointsOf}
 use Rattle.plane.proofs.Bools.{clash, cond-case}
 use Rattle.plane.proofs.Order.{eqZ-is, eqZ-refl}
 use Rattle.plane.proofs.Maps.{map-at}
-use Rattle.plane.proofs.Arrays.{length-points}
 use Rattle.plane.proofs.Places.{stretch-next, stretch-none, stretch-set}
-use Rattle.ordering.specs.Orders.{rowOrder}
-use Rattle.ordering.proofs.Orders.{pointsAt, order-points-in-order}
-use Rattle.rule.specs.Rows.{Accepted}
+use Rattle.rule.specs.Table.{pointAt}
 use Rattle.live.specs.declared.Live.{Live}
 use Rattle.live.specs.Stands.{far, nextOn}
 use Rattle.sweep.specs.declared.Sweep.{Sweep}
-use Rattle.sweep.specs.Inner.{livesOf, liveAt, putLive, KeptPast, farPoint, farLive, nextPoint, nextLive, onRowOf}
-use Rattle.sweep.proofs.Lives.{length-lives, noLive, live-at, lives-put}
-use Rattle.sweep.proofs.Kept.{kept-put}
+use Rattle.sweep.specs.Inner.{liveSize, livesOf, zeroLive, liveAt, putLive, KeptPast, farPoint, farLive, nextPoint, nextLive, onRowOf, pointsAt}
+use Rattle.sweep.proofs.Lives.{length-lives, lives-put}
+use Rattle.sweep.proofs.Kept.{kept-live}
 
 -- ---- One put at a place
 
@@ -38,33 +35,29 @@ pub record LivePut (work : List ℤ) (i : ℕ) (k : Live) (many past : ℕ) (aft
   pub kept : KeptPast past work after
 
 -- it is so where it fits
-pub live-put : (work : List ℤ) (i : ℕ) (k : Live) (many past : ℕ) → i < many → 4 * many ≤ past → past ≤ length work → LivePut work i k many past (putLive work i k)
+pub live-put : (work : List ℤ) (i : ℕ) (k : Live) (many past : ℕ) → i < many → liveSize * many ≤ past → past ≤ length work → LivePut work i k many past (putLive work i k)
 live-put work i k many past h w f =
     let e = lives-put work i k (omega arith) in
     record {
       put-after = rw (e, add-one) (take-suc-set (livesOf work) i k (omega (arith, length-lives work)));
       later-stay = λ j l. rw e (stretch-set (livesOf work) i j many k l h);
-      kept = kept-put past work i _ (omega arith);
+      kept = kept-live past work i k (omega arith);
     }
 
 -- ---- The next one ahead
 
 -- there is none, or it is the first of those ahead
-pub meets : (work : List ℤ) (i many : ℕ) → 4 * many ≤ length work → ((nextLive work i many ≡ farLive) × (drop i (take many (livesOf work)) ≡ [])) ⊎ ((i < many) × (drop i (take many (livesOf work)) ≡ nextLive work i many ∷ drop (i + 1) (take many (livesOf work))))
+pub meets : (work : List ℤ) (i many : ℕ) → liveSize * many ≤ length work → ((nextLive work i many ≡ farLive) × (drop i (take many (livesOf work)) ≡ [])) ⊎ ((i < many) × (drop i (take many (livesOf work)) ≡ nextLive work i many ∷ drop (i + 1) (take many (livesOf work))))
 meets work i many w = go (ltb i many) refl
   where
     l : List Live
     l = livesOf work
 
     go : (t : Bool) → ltb i many ≡ t → let k = cond t (liveAt work i) farLive in ((k ≡ farLive) × (drop i (take many l) ≡ [])) ⊎ ((i < many) × (drop i (take many l) ≡ k ∷ drop (i + 1) (take many l)))
-    go true e = let h = ltb-true i many e in inr (h, stretch-next l i many noLive h (omega (arith, length-lives work)) ∙ rw (live-at work i))
+    go true e = let h = ltb-true i many e in inr (h, stretch-next l i many zeroLive h (omega (arith, length-lives work)))
     go false e = inl (refl, stretch-none l i many (ltb-false i many e))
 
 -- ---- The next point
-
--- the row order has as many places as there are points
-pub order-places : (a : List ℤ) {order : List ℕ} → Accepted (pointsOf a) → order ≡ rowOrder (pointsOf a) → length order ≡ length a / 2
-order-places a acc e = ap length e ∙ order-points-in-order acc .1 ∙ length-points a
 
 -- the first of some points, or a far one
 abbrev pub nextOf : List Point → Point
@@ -72,27 +65,20 @@ nextOf [] = farPoint
 nextOf (p ∷ ps) = p
 
 -- the next point is the first of those to come
-pub next-is-first : (a : List ℤ) → Accepted (pointsOf a) → (i : ℕ) → nextPoint a (rowOrder (pointsOf a)) i ≡ nextOf (drop i (inOrder (pointsOf a)))
-next-is-first a acc i = go (ltb i (length o)) refl
+pub next-is-first : (a : List ℤ) (order : List ℕ) (i : ℕ) → nextPoint a order i ≡ nextOf (drop i (pointsAt a order))
+next-is-first a order i = go (ltb i (length order)) refl
   where
-    ps : List Point
-    ps = pointsOf a
+    qs : List Point
+    qs = pointsAt a order
 
-    o : List ℕ
-    o = rowOrder ps
+    many : length qs ≡ length order
+    many = length-map order (pointAt (pointsOf a))
 
-    at : pointsAt ps o ≡ inOrder ps
-    at = order-points-in-order acc .0
-
-    go : (t : Bool) → ltb i (length o) ≡ t → cond t (pointAt ps (getD o i 0)) farPoint ≡ nextOf (drop i (inOrder ps))
+    go : (t : Bool) → ltb i (length order) ≡ t → cond t (pointAt (pointsOf a) (getD order i 0)) farPoint ≡ nextOf (drop i qs)
     go true e =
-        let h = ltb-true i (length o) e in
-        let l = length-map o (pointAt ps) in
-        rw (← at, drop-cons (pointsAt ps o) i origin (omega arith)) (sym (map-at (pointAt ps) o i 0 origin h))
-    go false e =
-        let l = length-map o (pointAt ps) in
-        let h = ltb-false i (length o) e in
-        rw (← at, drop-of-length-le (pointsAt ps o) {i = i} (omega arith))
+        let h = ltb-true i (length order) e in
+        rw (drop-cons qs i origin (omega (arith, many))) (sym (map-at (pointAt (pointsOf a)) order i 0 origin h))
+    go false e = let h = ltb-false i (length order) e in rw (drop-of-length-le qs {i = i} (omega (arith, many)))
 
 -- on the row it is where the next point of the row is
 pub on-row-at : (z : Sweep) (rest : List Point) → onRowOf z (nextOf rest) .x ≡ nextOn (z .row) rest

@@ -11,7 +11,7 @@ use lib.Dec.{eqb}
 use borrow.Author.Tests.{eqb-true, eqb-false}
 use Rattle.plane.specs.declared.Point.{Point}
 use Rattle.plane.specs.declared.Rect.{Rect}
-use Rattle.plane.specs.Words.{rectsOf, flatRects, rectAt}
+use Rattle.plane.specs.Words.{rectSize, rectsOf, flatRects}
 use Rattle.plane.proofs.Arrays.{length-rects, length-flat-rects, rects-rest, rects-set}
 use Rattle.rule.specs.Rule.{ruleList}
 use Rattle.rule.specs.Answers.{written}
@@ -20,28 +20,28 @@ use Rattle.rule.specs.Checks.{accepted}
 use Rattle.live.specs.Stands.{rectNo}
 use Rattle.live.proofs.Numbered.{list-at}
 use Rattle.sweep.specs.Inner.{putRect, KeptPast}
-use Rattle.sweep.proofs.Kept.{kept-all, kept-on, kept-put}
+use Rattle.sweep.proofs.Kept.{kept-all, kept-on, kept-rect}
 
 -- an output where those of the list with these numbers stand at their places, and past the list all is as it was
 pub record Puts (ps : List Point) (finished : List ℕ) (out₀ out : List ℤ) : Type 0 where
-  pub kept : KeptPast (4 * length (ruleList ps)) out₀ out
+  pub kept : KeptPast (rectSize * length (ruleList ps)) out₀ out
   pub each : (i : ℕ) → In i finished → rectAt (rectsOf out) i ≡ rectNo ps i
 
 -- none are put before the first
 pub puts-none : {ps : List Point} {out₀ : List ℤ} → Puts ps [] out₀ out₀
 puts-none = record { kept = kept-all; each = λ i m. absurd (not-nil m) }
 
-module _ {ps : List Point} {finished : List ℕ} {out₀ out : List ℤ} (room : 4 * length (ruleList ps) ≤ length out₀) (w : Puts ps finished out₀ out) where
+module _ {ps : List Point} {finished : List ℕ} {out₀ out : List ℤ} (room : rectSize * length (ruleList ps) ≤ length out₀) (w : Puts ps finished out₀ out) where
   -- the output has room for the list
-  room-still : 4 * length (ruleList ps) ≤ length out
+  room-still : rectSize * length (ruleList ps) ≤ length out
   room-still = omega (arith, room, w .kept .same-length)
 
   -- one more is put, again or for the first time
   pub puts-next : (i : ℕ) → i < length (ruleList ps) → Puts ps (i ∷ finished) out₀ (putRect out i (rectNo ps i))
   puts-next i h =
-      let within : 4 * i + 3 < length out = omega (arith, room-still) in
+      let within : rectSize * i + 3 < length out = omega (arith, room-still) in
       record {
-        kept = kept-on (w .kept) (kept-put (4 * length (ruleList ps)) out i (rectNo ps i) (omega arith));
+        kept = kept-on (w .kept) (kept-rect (rectSize * length (ruleList ps)) out i (rectNo ps i) (omega arith));
         each = λ j m. rw (rects-set out i (rectNo ps i) within) (go j m (eqb j i) refl);
       }
     where

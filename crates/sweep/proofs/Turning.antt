@@ -13,9 +13,9 @@ use Rattle.plane.specs.declared.Point.{Point}
 use Rattle.plane.proofs.Places.{set-first}
 use Rattle.live.specs.declared.Live.{Live}
 use Rattle.sweep.specs.declared.Sweep.{Sweep}
-use Rattle.sweep.specs.Inner.{livesOf, liveAt, putLive, KeptPast, atRow, Turned}
-use Rattle.sweep.proofs.Lives.{length-lives, noLive, live-at, lives-put}
-use Rattle.sweep.proofs.Kept.{kept-all, kept-on, kept-put}
+use Rattle.sweep.specs.Inner.{liveSize, livesOf, zeroLive, liveAt, putLive, KeptPast, atRow, Turned}
+use Rattle.sweep.proofs.Lives.{length-lives, lives-put}
+use Rattle.sweep.proofs.Kept.{kept-all, kept-on, kept-live}
 
 -- the live rectangles passed, but for the first so many, are moved to stand before those ahead
 pub record Turning (z : Sweep) (before after : List ℤ) (passed ahead : ℕ) : Type 0 where
@@ -24,7 +24,7 @@ pub record Turning (z : Sweep) (before after : List ℤ) (passed ahead : ℕ) : 
   pub more : ahead + back ≡ z .ahead
   pub still-passed : take passed (livesOf after) ≡ take passed (livesOf before)
   pub ahead-again : drop ahead (livesOf after) ≡ take back (drop passed (livesOf before)) ++ drop (z .ahead) (livesOf before)
-  pub kept-past : KeptPast (4 * z .ahead) before after
+  pub kept-past : KeptPast (liveSize * z .ahead) before after
 
 -- at first none is moved
 pub turning-none : (z : Sweep) (work : List ℤ) → Turning z work work (z .passed) (z .ahead)
@@ -33,20 +33,18 @@ turning-none z work = record { back = 0; fewer = omega arith; more = omega arith
 -- one still passed is as it was
 pub turning-same : {z : Sweep} {before after : List ℤ} {passed ahead : ℕ} → Turning z before after passed ahead → (i : ℕ) → i < passed → liveAt after i ≡ liveAt before i
 turning-same {before = before} {after = after} {passed = passed} t i h =
-    sym (live-at after i)
-    ∙ sym (getD-take passed (livesOf after) i noLive h)
-    ∙ ap (λ (l : List Live). getD l i noLive) (t .still-passed)
-    ∙ getD-take passed (livesOf before) i noLive h
-    ∙ live-at before i
+    sym (getD-take passed (livesOf after) i zeroLive h)
+    ∙ ap (λ (l : List Live). getD l i zeroLive) (t .still-passed)
+    ∙ getD-take passed (livesOf before) i zeroLive h
 
 -- the last one that is passed is moved
-pub turning-next : {z : Sweep} {before after : List ℤ} {passed ahead i j : ℕ} → z .passed ≤ z .ahead → 4 * z .ahead ≤ length before → passed ≡ suc i → ahead ≡ suc j → Turning z before after passed ahead → Turning z before (putLive after j (liveAt after i)) i j
+pub turning-next : {z : Sweep} {before after : List ℤ} {passed ahead i j : ℕ} → z .passed ≤ z .ahead → liveSize * z .ahead ≤ length before → passed ≡ suc i → ahead ≡ suc j → Turning z before after passed ahead → Turning z before (putLive after j (liveAt after i)) i j
 turning-next {z} {before} {after} {passed} {ahead} {i} {j} fit room d e t =
     let k : Live = liveAt after i in
     let same : length after ≡ length before = t .kept-past .same-length in
-    let within : 4 * j + 3 < length after = omega (arith, t .more) in
+    let within : liveSize * (j + 1) ≤ length after = omega (arith, t .more) in
     let put : livesOf (putLive after j k) ≡ set (livesOf after) j k = lives-put after j k within in
-    let from : drop i (livesOf before) ≡ k ∷ drop (suc i) (livesOf before) = drop-cons (livesOf before) i noLive (omega (arith, length-lives before, t .fewer)) ∙ rw (live-at before i, turning-same t i (omega arith)) in
+    let from : drop i (livesOf before) ≡ k ∷ drop (suc i) (livesOf before) = drop-cons (livesOf before) i zeroLive (omega (arith, length-lives before, t .fewer)) ∙ rw (turning-same t i (omega arith)) in
     let rest : drop (suc j) (livesOf after) ≡ take (t .back) (drop (suc i) (livesOf before)) ++ drop (z .ahead) (livesOf before) = rw (d, e) at (t .ahead-again) in
     record {
       back = suc (t .back);
@@ -54,7 +52,7 @@ turning-next {z} {before} {after} {passed} {ahead} {i} {j} fit room d e t =
       more = omega (arith, t .more);
       still-passed = ap (take i) put ∙ take-set-le i (livesOf after) j k (omega (arith, t .fewer, t .more)) ∙ sym (take-take i passed (livesOf after) (omega arith)) ∙ ap (take i) (t .still-passed) ∙ take-take i passed (livesOf before) (omega arith);
       ahead-again = ap (drop j) put ∙ set-first (livesOf after) j k (omega (arith, length-lives after)) ∙ ap (λ (l : List Live). k ∷ l) rest ∙ sym (ap (λ (l : List Live). take (suc (t .back)) l ++ drop (z .ahead) (livesOf before)) from);
-      kept-past = kept-on (t .kept-past) (kept-put (4 * z .ahead) after j _ (omega (arith, t .more)));
+      kept-past = kept-on (t .kept-past) (kept-live (liveSize * z .ahead) after j k (omega (arith, t .more)));
     }
 
 -- where the last one that is passed is left of the point, or none is, the sweep is turned

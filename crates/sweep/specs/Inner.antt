@@ -5,46 +5,55 @@ use mathlib.Core.Logic.{_⊎_}
 use mathlib.Core.Bool.{Bool, true, not, cond}
 use mathlib.Core.List.{List, [], _∷_, _++_, map}
 use lib.ListN.{length, getD, take, drop, set, replicate}
-use lib.IntN.{ℤ, pos, negsuc, _-ℤ_}
+use lib.IntN.{ℤ, pos, _-ℤ_}
 use lib.Signed.{leZ, ltZ}
 use lib.Dec.{ltb}
 use Rattle.plane.specs.declared.Point.{Point}
 use Rattle.plane.specs.declared.Rect.{Rect}
 use Rattle.plane.specs.Lists.{bit, sum, sumBelow}
-use Rattle.plane.specs.Words.{eqZ, pointsOf, rectsOf, flatRects, inOrder, pointAt, rectAt}
+use Rattle.plane.specs.Words.{eqZ, pointsOf, rectSize, foursOf, flatRects, rising}
 use Rattle.rule.specs.declared.ForwardAnswer.{ForwardAnswer}
 use Rattle.rule.specs.Rule.{ruleList}
+use Rattle.rule.specs.Table.{Check, LENGTH, MANY, WORK, pointAt, pointChecks, Accepted, accepted, verdict}
 use Rattle.rule.specs.Answers.{forwardSays, written}
 use Rattle.ordering.specs.Orders.{rowOrder}
 use Rattle.rule.specs.Checks.{Check, accepted, verdict}
 use Rattle.rule.specs.Rows.{LENGTH, MANY, WORK, pointChecks, Accepted}
 use Rattle.live.specs.declared.Live.{Live}
-use Rattle.live.specs.Stands.{far, number, rectNo, stand, nextOn, Stand, Sweeping}
+use Rattle.live.specs.Stands.{far, firstRow, number, rectNo, stand, nextOn, Stand, Sweeping}
 use Rattle.sweep.specs.declared.Sweep.{Sweep}
 use Rattle.sweep.specs.declared.Move.{Move}
 use Rattle.sweep.specs.declared.Move.the-variants.{Onward, Rectangle, Refused}
 
 -- ---- Arrays
 
--- a live rectangle of four numbers
-abbrev pub liveOf : Rect → Live
-liveOf r = record { left = r .x; right = r .y; row = r .w; place = r .h }
+-- an array with four numbers put from a place on
+abbrev pub putFour : List ℤ → (from : ℕ) → (p q r s : ℤ) → List ℤ
+putFour a from p q r s = set (set (set (set a from p) (from + 1) q) (from + 2) r) (from + 3) s
 
--- the live rectangles of an array, four numbers to each
-abbrev pub livesOf : List ℤ → List Live
-livesOf a = map liveOf (rectsOf a)
-
--- the live rectangle at a place
-abbrev pub liveAt : List ℤ → ℕ → Live
-liveAt a i = liveOf (rectAt (rectsOf a) i)
-
--- an array with four numbers put at place i
+-- an array with a rectangle put at place i
 abbrev pub putRect : List ℤ → ℕ → Rect → List ℤ
-putRect a i r = set (set (set (set a (4 * i) (r .x)) (4 * i + 1) (r .y)) (4 * i + 2) (r .w)) (4 * i + 3) (r .h)
+putRect a i r = putFour a (rectSize * i) (r .x) (r .y) (r .w) (r .h)
 
--- an array with a live rectangle put at place i
+-- how many numbers a live rectangle has in an array
+abbrev pub liveSize : ℕ
+liveSize = 4
+
+-- the live rectangles of an array
+abbrev pub livesOf : List ℤ → List Live
+livesOf a = foursOf (λ left right row place. record { left = left; right = right; row = row; place = place }) a
+
+-- zeros as one
+abbrev pub zeroLive : Live
+zeroLive = record { left = pos 0; right = pos 0; row = pos 0; place = pos 0 }
+
+-- the one at a place, zeros where there is none
+abbrev pub liveAt : List ℤ → ℕ → Live
+liveAt a i = getD (livesOf a) i zeroLive
+
+-- an array with one put at place i
 abbrev pub putLive : List ℤ → ℕ → Live → List ℤ
-putLive a i k = putRect a i (record { x = k .left; y = k .right; w = k .row; h = k .place })
+putLive a i k = putFour a (liveSize * i) (k .left) (k .right) (k .row) (k .place)
 
 -- past its first n numbers an array is as it was, and as long
 pub record KeptPast (n : ℕ) (before after : List ℤ) : Type 0 where
@@ -77,33 +86,57 @@ nextLive work i end = cond (ltb i end) (liveAt work i) farLive
 abbrev pub onRowOf : Sweep → Point → Point
 onRowOf z p = cond (eqZ (p .y) (z .row)) p farPoint
 
+-- the right end carried
+abbrev pub carriedPoint : Sweep → Point
+carriedPoint z = record { x = z .carried; y = z .row }
+
 -- the nearer of a point and the right end carried
 abbrev pub nearer : Sweep → Point → Point
-nearer z t = cond (ltZ (t .x) (z .carried)) t (record { x = z .carried; y = z .row })
+nearer z t = cond (ltZ (t .x) (z .carried)) t (carriedPoint z)
+
+-- ---- Where a sweep stands, but for one thing
+
+-- after its next point
+abbrev pub afterPoint : Sweep → Sweep
+afterPoint z = record { next = z .next + 1; passed = z .passed; ahead = z .ahead; given = z .given; row = z .row; carried = z .carried; opened = z .opened }
+
+-- with so many live rectangles passed, and the first ahead at this place
+abbrev pub withStacks : Sweep → (passed ahead : ℕ) → Sweep
+withStacks z passed ahead = record { next = z .next; passed = passed; ahead = ahead; given = z .given; row = z .row; carried = z .carried; opened = z .opened }
+
+-- with so many rectangles begun
+abbrev pub withGiven : Sweep → ℕ → Sweep
+withGiven z given = record { next = z .next; passed = z .passed; ahead = z .ahead; given = given; row = z .row; carried = z .carried; opened = z .opened }
+
+-- on this row
+abbrev pub withRow : Sweep → ℤ → Sweep
+withRow z row = record { next = z .next; passed = z .passed; ahead = z .ahead; given = z .given; row = row; carried = z .carried; opened = z .opened }
+
+-- with this right end carried
+abbrev pub withCarried : Sweep → ℤ → Sweep
+withCarried z carried = record { next = z .next; passed = z .passed; ahead = z .ahead; given = z .given; row = z .row; carried = carried; opened = z .opened }
+
+-- with this left end open
+abbrev pub withOpened : Sweep → ℤ → Sweep
+withOpened z opened = record { next = z .next; passed = z .passed; ahead = z .ahead; given = z .given; row = z .row; carried = z .carried; opened = opened }
 
 -- ---- What the moves make of where the sweep stands
 
 -- before the first point
 abbrev pub startOf : (room : ℕ) → Sweep
-startOf room = record { next = 0; passed = 0; ahead = room; given = 0; row = negsuc 1_999_999_999; carried = far; opened = far }
+startOf room = record { next = 0; passed = 0; ahead = room; given = 0; row = firstRow; carried = far; opened = far }
 
 -- without a point and the right end carried
 abbrev pub cancelled : Sweep → Sweep
-cancelled z = record { next = z .next + 1; passed = z .passed; ahead = z .ahead; given = z .given; row = z .row; carried = far; opened = z .opened }
+cancelled z = withCarried (afterPoint z) far
 
 -- without the nearer of a point and the right end carried
 abbrev pub takenFrom : Sweep → Point → Sweep
-takenFrom z t = cond (ltZ (t .x) (z .carried))
-    (record { next = z .next + 1; passed = z .passed; ahead = z .ahead; given = z .given; row = z .row; carried = z .carried; opened = z .opened })
-    (record { next = z .next; passed = z .passed; ahead = z .ahead; given = z .given; row = z .row; carried = far; opened = z .opened })
-
--- with an end that opens a rectangle
-abbrev pub opening : Sweep → Point → Sweep
-opening z v = record { next = z .next; passed = z .passed; ahead = z .ahead; given = z .given; row = z .row; carried = z .carried; opened = v .x }
+takenFrom z t = cond (ltZ (t .x) (z .carried)) (afterPoint z) (withCarried z far)
 
 -- with the open one closed
 abbrev pub closed : Sweep → Sweep
-closed z = record { next = z .next; passed = z .passed + 1; ahead = z .ahead; given = z .given + 1; row = z .row; carried = z .carried; opened = far }
+closed z = withGiven (withOpened (withStacks z (z .passed + 1) (z .ahead)) far) (z .given + 1)
 
 -- the rectangle from the open end to this one
 abbrev pub newLive : Sweep → Point → Live
@@ -111,7 +144,7 @@ newLive z v = record { left = z .opened; right = v .x; row = z .row; place = pos
 
 -- with an end put on the row: it opens a rectangle, or closes the open one
 abbrev pub endPut : Sweep → Point → Sweep
-endPut z v = cond (eqZ (z .opened) far) (opening z v) (closed z)
+endPut z v = cond (eqZ (z .opened) far) (withOpened z (v .x)) (closed z)
 
 -- the working array then
 abbrev pub endPutWork : (work : List ℤ) → Sweep → Point → List ℤ
@@ -119,11 +152,11 @@ endPutWork work z v = cond (eqZ (z .opened) far) work (putLive work (z .passed) 
 
 -- with the next one ahead passed
 abbrev pub passing : Sweep → Sweep
-passing z = record { next = z .next; passed = z .passed + 1; ahead = z .ahead + 1; given = z .given; row = z .row; carried = z .carried; opened = z .opened }
+passing z = withStacks z (z .passed + 1) (z .ahead + 1)
 
 -- with the next one ahead ended, and its right end carried
 abbrev pub carrying : Sweep → Live → Sweep
-carrying z k = record { next = z .next; passed = z .passed; ahead = z .ahead + 1; given = z .given; row = z .row; carried = k .right; opened = z .opened }
+carrying z k = withCarried (withStacks z (z .passed) (z .ahead + 1)) (k .right)
 
 -- its left end as an end on the row
 abbrev pub leftEnd : Sweep → Live → Point
@@ -143,7 +176,7 @@ endedBox z k = record { x = k .left; y = k .row; w = k .right -ℤ k .left; h = 
 
 -- on the row of a point
 abbrev pub atRow : Sweep → Point → (passed ahead : ℕ) → Sweep
-atRow z p passed ahead = record { next = z .next; passed = passed; ahead = ahead; given = z .given; row = p .y; carried = z .carried; opened = z .opened }
+atRow z p passed ahead = withRow (withStacks z passed ahead) (p .y)
 
 -- turned to the row of a point: as many as are ahead again are passed no more, they stand before those ahead, and the last one that is
 -- still passed is left of the point
@@ -155,73 +188,85 @@ pub record Turned (p : Point) (z : Sweep) (before : List ℤ) (r : Sweep) (after
   pub still-passed : take (r .passed) (livesOf after) ≡ take (r .passed) (livesOf before)
   pub ahead-again : drop (r .ahead) (livesOf after) ≡ take back (drop (r .passed) (livesOf before)) ++ drop (z .ahead) (livesOf before)
   pub last-left : (r .passed ≡ 0) ⊎ (leZ (liveAt before (r .passed - 1) .right) (p .x) ≡ true)
-  pub kept-past : KeptPast (4 * z .ahead) before after
+  pub kept-past : KeptPast (liveSize * z .ahead) before after
 
--- ---- A sweep of an array's points
+-- ---- A sweep of points
+
+-- the points of an array at some places
+abbrev pub pointsAt : (a : List ℤ) (order : List ℕ) → List Point
+pointsAt a order = map (pointAt (pointsOf a)) order
 
 -- how many live rectangles the working array has room for
-abbrev pub roomFor : List ℤ → ℕ
-roomFor a = length a / 2 / 2
+abbrev pub roomFor : List Point → ℕ
+roomFor qs = length qs / 2
 
 -- those passed
 abbrev pub passedIn : (work : List ℤ) → Sweep → List Live
 passedIn work z = take (z .passed) (livesOf work)
 
 -- those ahead
-abbrev pub aheadIn : (a work : List ℤ) → Sweep → List Live
-aheadIn a work z = drop (z .ahead) (take (roomFor a) (livesOf work))
+abbrev pub aheadIn : (qs : List Point) (work : List ℤ) → Sweep → List Live
+aheadIn qs work z = drop (z .ahead) (take (roomFor qs) (livesOf work))
 
 -- the points to come
-abbrev pub restOf : (a : List ℤ) → Sweep → List Point
-restOf a z = drop (z .next) (inOrder (pointsOf a))
+abbrev pub restOf : (qs : List Point) → Sweep → List Point
+restOf qs z = drop (z .next) qs
 
 -- where the sweep stands, with a point in hand or none
-abbrev pub standOf : (a work : List ℤ) (z : Sweep) (hand : ℤ) → Stand
-standOf a work z hand = stand (restOf a z) (z .row) (z .carried) (z .opened) hand (z .given) (passedIn work z) (aheadIn a work z)
+abbrev pub standOf : (qs : List Point) (work : List ℤ) (z : Sweep) (hand : ℤ) → Stand
+standOf qs work z hand = stand (restOf qs z) (z .row) (z .carried) (z .opened) hand (z .given) (passedIn work z) (aheadIn qs work z)
 
 -- 1 for an end that is there
 abbrev pub there : ℤ → ℕ
 there x = bit (not (eqZ x far))
 
--- a sweep of accepted points is under way
-pub record Underway (a work : List ℤ) (z : Sweep) : Type 0 where
-  pub points : Accepted (pointsOf a)
-  pub few : length a / 2 ≤ 4096
-  pub working : 2 * (length a / 2) ≤ length work
-  pub next-within : z .next ≤ length a / 2
+-- points that can be swept with a working array of so many numbers
+pub record Ready (qs : List Point) (work : ℕ) : Type 0 where
+  pub points : Accepted qs
+  pub in-order : rising qs ≡ true
+  pub few : length qs ≤ 4096
+  pub working : 2 * length qs ≤ work
+
+-- a sweep of them is under way, with a point in hand or none
+pub record Underway (qs : List Point) (work : List ℤ) (z : Sweep) (hand : ℤ) : Type 0 where
+  pub ready : Ready qs (length work)
+  pub next-within : z .next ≤ length qs
   pub passed-within : z .passed ≤ z .ahead
-  pub ahead-within : z .ahead ≤ roomFor a
+  pub ahead-within : z .ahead ≤ roomFor qs
   pub carried-near : leZ (z .carried) far ≡ true
   -- the live rectangles and the points to come have room
-  pub room : 2 * (z .passed + (roomFor a - z .ahead)) + ((length a / 2 - z .next) + (there (z .carried) + there (z .opened))) ≤ length a / 2
-  pub sweeping : Sweeping (pointsOf a) (standOf a work z far)
+  pub room : 2 * (z .passed + (roomFor qs - z .ahead)) + ((length qs - z .next) + (there (z .carried) + (there (z .opened) + there hand))) ≤ length qs
+  pub sweeping : Sweeping qs (standOf qs work z hand)
 
 -- how much is to come: every move makes it less
-abbrev pub toCome : (a : List ℤ) → Sweep → ℕ
-toCome a z = (2 * (length a / 2 - z .next) + bit (eqZ (nextOn (z .row) (restOf a z)) far)) * 8192 + (2 * (roomFor a - z .ahead) + there (z .carried))
+abbrev pub toCome : (qs : List Point) → Sweep → ℕ
+toCome qs z = (2 * (length qs - z .next) + bit (eqZ (nextOn (z .row) (restOf qs z)) far)) * 8192 + (2 * (roomFor qs - z .ahead) + there (z .carried))
 
 -- every weight, summed over the live rectangles' numbers
-abbrev pub liveSum : (a work : List ℤ) (z : Sweep) → (ℕ → ℕ) → ℕ
-liveSum a work z w = sum (λ k. w (number k)) (passedIn work z ++ aheadIn a work z)
+abbrev pub liveSum : (qs : List Point) (work : List ℤ) (z : Sweep) → (ℕ → ℕ) → ℕ
+liveSum qs work z w = sum (λ k. w (number k)) (passedIn work z ++ aheadIn qs work z)
 
 -- a move that goes on: what has begun is live
-pub record GoesOn (a : List ℤ) (z : Sweep) (before : List ℤ) (at : Sweep) (after : List ℤ) : Type 0 where
-  pub underway : Underway a after at
-  pub less : toCome a at < toCome a z
-  pub balance : (w : ℕ → ℕ) → liveSum a after at w + sumBelow (z .given) w ≡ liveSum a before z w + sumBelow (at .given) w
+pub record GoesOn (qs : List Point) (z : Sweep) (before : List ℤ) (at : Sweep) (after : List ℤ) : Type 0 where
+  pub kept : KeptPast (2 * length qs) before after
+  pub underway : Underway qs after at far
+  pub less : toCome qs at < toCome qs z
+  pub balance : (w : ℕ → ℕ) → liveSum qs after at w + sumBelow (z .given) w ≡ liveSum qs before z w + sumBelow (at .given) w
 
 -- a move that gives a rectangle: it is the one at its place in the list, and live no more
-pub record Gives (a : List ℤ) (z : Sweep) (before : List ℤ) (rect : Rect) (place : ℕ) (at : Sweep) (after : List ℤ) : Type 0 where
-  pub underway : Underway a after at
-  pub less : toCome a at < toCome a z
-  pub in-list : place < length (forwardList a)
-  pub rect-is : rect ≡ rectNo (pointsOf a) place
-  pub balance : (w : ℕ → ℕ) → liveSum a after at w + (w place + sumBelow (z .given) w) ≡ liveSum a before z w + sumBelow (at .given) w
+pub record Gives (qs : List Point) (z : Sweep) (before : List ℤ) (rect : Rect) (place : ℕ) (at : Sweep) (after : List ℤ) : Type 0 where
+  pub kept : KeptPast (2 * length qs) before after
+  pub underway : Underway qs after at far
+  pub less : toCome qs at < toCome qs z
+  pub in-list : place < length (ruleList qs)
+  pub rect-is : rect ≡ rectNo qs place
+  pub balance : (w : ℕ → ℕ) → liveSum qs after at w + (w place + sumBelow (z .given) w) ≡ liveSum qs before z w + sumBelow (at .given) w
 
 -- a move that is refused, with DRAINED: none is live, and all have begun
-pub record AllGiven (a : List ℤ) (z : Sweep) (before : List ℤ) : Type 0 where
-  pub none-live : passedIn before z ++ aheadIn a before z ≡ []
-  pub all-begun : z .given ≡ length (forwardList a)
+pub record AllGiven (qs : List Point) (z : Sweep) (before after : List ℤ) : Type 0 where
+  pub kept : KeptPast (2 * length qs) before after
+  pub none-live : passedIn before z ++ aheadIn qs before z ≡ []
+  pub all-begun : z .given ≡ length (ruleList qs)
 
 -- document 01's number for each case of a move: with a rectangle, or on the way to one, it is answer 0
 abbrev pub moveNumber : Move → ℕ
@@ -236,15 +281,16 @@ movePlace (Rectangle rect place at) = 0
 movePlace (Refused k p) = p
 
 -- what a move does
-abbrev pub Advanced : (a : List ℤ) (z : Sweep) (before : List ℤ) → Move → (after : List ℤ) → Type 0
-Advanced a z before (Onward at) after = GoesOn a z before at after
-Advanced a z before (Rectangle rect place at) after = Gives a z before rect place at after
-Advanced a z before (Refused k p) after = (moveNumber (Refused k p) ≡ 10) × (movePlace (Refused k p) ≡ 0) × AllGiven a z before
+abbrev pub Advanced : (qs : List Point) (z : Sweep) (before : List ℤ) → Move → (after : List ℤ) → Type 0
+Advanced qs z before (Onward at) after = GoesOn qs z before at after
+Advanced qs z before (Rectangle rect place at) after = Gives qs z before rect place at after
+Advanced qs z before (Refused k p) after = (moveNumber (Refused k p) ≡ 10) × (movePlace (Refused k p) ≡ 0) × AllGiven qs z before after
 
 -- the list is counted and summed, and written if asked for
-pub record Swept (a : List ℤ) (writes : Bool) (before : List ℤ) (r : ForwardAnswer) (after : List ℤ) : Type 0 where
-  pub answer : r ≡ forwardSays accepted (forwardSums a)
-  pub output : after ≡ cond writes (written accepted (flatRects (forwardList a)) before) before
+pub record Swept (qs : List Point) (writes : Bool) (work before : List ℤ) (r : ForwardAnswer) (work-after after : List ℤ) : Type 0 where
+  pub kept : KeptPast (2 * length qs) work work-after
+  pub answer : r ≡ forwardSays accepted (ruleList qs)
+  pub output : after ≡ cond writes (written accepted (flatRects (ruleList qs)) before) before
 
 -- ---- Checks
 
@@ -255,3 +301,11 @@ inputChecks a work = LENGTH (length a) 2 ∷ MANY 4096 (length a / 2) ∷ WORK w
 -- where they refuse nothing, places begin with those of the points in order
 pub record Ordered (a : List ℤ) (work : ℕ) (order : List ℕ) : Type 0 where
   pub in-order : verdict (inputChecks a work) ≡ accepted → take (length a / 2) order ≡ rowOrder (pointsOf a)
+
+-- ---- The array's points
+
+-- the points at places stand for all of an array: they can be swept, are as many, and have the same list
+pub record StandFor (a : List ℤ) (work : ℕ) (order : List ℕ) : Type 0 where
+  pub ready : Ready (pointsAt a order) work
+  pub as-many : length order ≡ length a / 2
+  pub same-list : ruleList (pointsAt a order) ≡ ruleList (pointsOf a)

@@ -11,19 +11,21 @@ ghost use mir.Val.{SFits};
 ghost use lib.ListN.{length};
 ghost use lib.IntN.{pos, _-ℤ_};
 ghost use lib.Signed.{ltZ, leZ};
-ghost use Prim.Native.Nat.{_+_, _*_, _/_, _<_, _≤_};
-ghost use Rattle.plane.specs.Words.{eqZ, pointsOf, flat, areaOf, edgeOf};
+ghost use Prim.Native.Nat.{_+_, _*_, _<_, _≤_};
+ghost use Rattle.plane.specs.Words.{eqZ, pointsOf, rectSize, flat, areaOf, edgeOf};
 ghost use Rattle.rule.specs.Rule.{ruleList};
-ghost use Rattle.rule.specs.Answers.{forwardAnswer, forwardWork, forwardOut, ForwardAccepted};
-ghost use Rattle.ordering.specs.Orders.{rowOrder};
-ghost use Rattle.rule.specs.Checks.{verdict};
+ghost use Rattle.rule.specs.Table.{verdict, ForwardAccepted};
+ghost use Rattle.rule.specs.Answers.{forwardAnswer, forwardWork, forwardOut};
 ghost use Rattle.checks.specs.Screens.{screenOf};
 ghost use Rattle.live.specs.Stands.{far, number};
-ghost use Rattle.sweep.specs.Inner.{farPoint, farLive, liveAt, putLive, putRect, onRowOf, nextPoint, nextLive, nearer, cancelled, takenFrom, carrying, passing, closed, opening, newLive, endPut, endPutWork, cutTo, cutWork, atRow, Turned, endedBox, startOf, Underway, Advanced, KeptPast, zeroed, inputChecks, Ordered, Swept};
+ghost use Rattle.sweep.specs.Inner.{putRect, liveSize, liveAt, putLive, zeroed, farPoint, farLive, nextPoint, nextLive, onRowOf, carriedPoint, nearer};
+ghost use Rattle.sweep.specs.Inner.{afterPoint, withCarried, withOpened, startOf, cancelled, takenFrom, closed, newLive, endPut, endPutWork, passing, carrying, leftEnd, cutTo, cutWork};
+ghost use Rattle.sweep.specs.Inner.{endedBox, atRow, Turned, pointsAt, Ready, Underway, Advanced, Swept, inputChecks, Ordered, StandFor};
 use checks::Screen;
 use checks::order_points;
 use live::Live;
 use plane::Point;
+use plane::RECT_SIZE;
 use plane::Rect;
 use plane::point_at;
 use rule::DONE;
@@ -75,30 +77,33 @@ fn start(room: usize) -> Sweep
 
 // ---- Live rectangles in the working array
 
+// How many numbers one has there.
+const LIVE_SIZE: usize = 4;
+
 fn live_at(work: &[i32], i: usize) -> Live
-    requires { ⌜ 4 * i + 3 < length (now work) ⌝ }
+    requires { ⌜ liveSize * (i + 1) ≤ length (now work) ⌝ }
     ensures { λ r. ⌜ r ≡ liveAt (now (work .entry)) i ⌝ }
 {
     Live {
-        left: work[4 * i],
-        right: work[4 * i + 1],
-        row: work[4 * i + 2],
-        place: work[4 * i + 3],
+        left: work[LIVE_SIZE * i],
+        right: work[LIVE_SIZE * i + 1],
+        row: work[LIVE_SIZE * i + 2],
+        place: work[LIVE_SIZE * i + 3],
     }
 }
 
 fn put_live(work: &mut [i32], i: usize, k: Live)
-    requires { ⌜ 4 * i + 3 < length (now work) ⌝ }
+    requires { ⌜ liveSize * (i + 1) ≤ length (now work) ⌝ }
     ensures { λ r. ⌜ now (work .exit) ≡ putLive (now (work .entry)) i k ⌝ }
 {
     let left = k.left;
     let right = k.right;
     let row = k.row;
     let place = k.place;
-    work[4 * i] = left;
-    work[4 * i + 1] = right;
-    work[4 * i + 2] = row;
-    work[4 * i + 3] = place;
+    work[LIVE_SIZE * i] = left;
+    work[LIVE_SIZE * i + 1] = right;
+    work[LIVE_SIZE * i + 2] = row;
+    work[LIVE_SIZE * i + 3] = place;
 }
 
 // ---- What is next
@@ -132,7 +137,7 @@ fn next_point(points: &[i32], order: &[u16], i: usize) -> Point
 
 // The live rectangle at a place below `end`, and a far one where there is none.
 fn next_live(work: &[i32], i: usize, end: usize) -> Live
-    requires { ⌜ 4 * end ≤ length (now work) ⌝ }
+    requires { ⌜ liveSize * end ≤ length (now work) ⌝ }
     ensures { λ r. ⌜ r ≡ nextLive (now (work .entry)) i end ⌝ }
 {
     if i < end {
@@ -165,7 +170,7 @@ fn is_carried(z: Sweep, t: Point) -> bool
 }
 
 fn carried_point(z: Sweep) -> Point
-    ensures { λ r. ⌜ r ≡ record { x = z .carried; y = z .row } ⌝ }
+    ensures { λ r. ⌜ r ≡ carriedPoint z ⌝ }
 {
     Point {
         x: z.carried,
@@ -222,48 +227,28 @@ fn is_passed_by(p: Point, k: Live) -> bool
 // ---- One end less
 
 // The point and the right end carried go.
-fn cancel(z: Sweep) -> Sweep
+fn cancel(mut z: Sweep) -> Sweep
     requires { ⌜ z .next ≤ 4096 ⌝ }
     ensures { λ r. ⌜ r ≡ cancelled z ⌝ }
 {
-    Sweep {
-        next: z.next + 1,
-        passed: z.passed,
-        ahead: z.ahead,
-        given: z.given,
-        row: z.row,
-        carried: FAR,
-        opened: z.opened,
-    }
+    z.next += 1;
+    z.carried = FAR;
+    z
 }
 
-fn after_point(z: Sweep) -> Sweep
+fn after_point(mut z: Sweep) -> Sweep
     requires { ⌜ z .next ≤ 4096 ⌝ }
-    ensures { λ r. ⌜ r ≡ record { next = z .next + 1; passed = z .passed; ahead = z .ahead; given = z .given; row = z .row; carried = z .carried; opened = z .opened } ⌝ }
+    ensures { λ r. ⌜ r ≡ afterPoint z ⌝ }
 {
-    Sweep {
-        next: z.next + 1,
-        passed: z.passed,
-        ahead: z.ahead,
-        given: z.given,
-        row: z.row,
-        carried: z.carried,
-        opened: z.opened,
-    }
+    z.next += 1;
+    z
 }
 
-fn without_carried(z: Sweep) -> Sweep
-    ensures { λ r. ⌜ r ≡ record { next = z .next; passed = z .passed; ahead = z .ahead; given = z .given; row = z .row; carried = far; opened = z .opened } ⌝ }
+fn without_carried(mut z: Sweep) -> Sweep
+    ensures { λ r. ⌜ r ≡ withCarried z far ⌝ }
 {
-    Sweep {
-        next: z.next,
-        passed: z.passed,
-        ahead: z.ahead,
-        given: z.given,
-        row: z.row,
-        carried: FAR,
-        opened: z.opened,
-    }
+    z.carried = FAR;
+    z
 }
 
 // The nearer of the point and the right end carried is taken.
@@ -279,18 +264,11 @@ fn taken(z: Sweep, t: Point) -> Sweep
 
 // ---- Rectangles that begin
 
-fn open_at(z: Sweep, v: Point) -> Sweep
-    ensures { λ r. ⌜ r ≡ opening z v ⌝ }
+fn open_at(mut z: Sweep, v: Point) -> Sweep
+    ensures { λ r. ⌜ r ≡ withOpened z (v .x) ⌝ }
 {
-    Sweep {
-        next: z.next,
-        passed: z.passed,
-        ahead: z.ahead,
-        given: z.given,
-        row: z.row,
-        carried: z.carried,
-        opened: v.x,
-    }
+    z.opened = v.x;
+    z
 }
 
 // The live rectangle from the end that is open to this one.
@@ -306,24 +284,19 @@ fn new_live(z: Sweep, v: Point) -> Live
     }
 }
 
-fn close_open(z: Sweep) -> Sweep
+fn close_open(mut z: Sweep) -> Sweep
     requires { ⌜ (z .given ≤ 16_777_216) × (z .passed < 4096) ⌝ }
     ensures { λ r. ⌜ r ≡ closed z ⌝ }
 {
-    Sweep {
-        next: z.next,
-        passed: z.passed + 1,
-        ahead: z.ahead,
-        given: z.given + 1,
-        row: z.row,
-        carried: z.carried,
-        opened: FAR,
-    }
+    z.passed += 1;
+    z.given += 1;
+    z.opened = FAR;
+    z
 }
 
 // An end on the row: it opens a rectangle, or closes the one that is open.
 fn put_end(work: &mut [i32], z: Sweep, v: Point) -> Sweep
-    requires { ⌜ (z .given ≤ 16_777_216) × (z .passed < 4096) × (4 * z .passed + 3 < length (now work)) ⌝ }
+    requires { ⌜ (z .given ≤ 16_777_216) × (z .passed < 4096) × (liveSize * (z .passed + 1) ≤ length (now work)) ⌝ }
     ensures { λ r. ⌜ r ≡ endPut z v ⌝ }
     ensures { λ r. ⌜ now (work .exit) ≡ endPutWork (now (work .entry)) z v ⌝ }
 {
@@ -337,39 +310,27 @@ fn put_end(work: &mut [i32], z: Sweep, v: Point) -> Sweep
 // ---- Live rectangles that the sweep comes to
 
 // The next one ahead goes on.
-fn pass(z: Sweep) -> Sweep
+fn pass(mut z: Sweep) -> Sweep
     requires { ⌜ (z .passed < 4096) × (z .ahead < 4096) ⌝ }
     ensures { λ r. ⌜ r ≡ passing z ⌝ }
 {
-    Sweep {
-        next: z.next,
-        passed: z.passed + 1,
-        ahead: z.ahead + 1,
-        given: z.given,
-        row: z.row,
-        carried: z.carried,
-        opened: z.opened,
-    }
+    z.passed += 1;
+    z.ahead += 1;
+    z
 }
 
 // It ends, and its right end is carried.
-fn carry(z: Sweep, k: Live) -> Sweep
+fn carry(mut z: Sweep, k: Live) -> Sweep
     requires { ⌜ z .ahead < 4096 ⌝ }
     ensures { λ r. ⌜ r ≡ carrying z k ⌝ }
 {
-    Sweep {
-        next: z.next,
-        passed: z.passed,
-        ahead: z.ahead + 1,
-        given: z.given,
-        row: z.row,
-        carried: k.right,
-        opened: z.opened,
-    }
+    z.ahead += 1;
+    z.carried = k.right;
+    z
 }
 
 fn left_end(z: Sweep, k: Live) -> Point
-    ensures { λ r. ⌜ r ≡ record { x = k .left; y = z .row } ⌝ }
+    ensures { λ r. ⌜ r ≡ leftEnd z k ⌝ }
 {
     Point {
         x: k.left,
@@ -379,7 +340,7 @@ fn left_end(z: Sweep, k: Live) -> Point
 
 // The next one ahead ends. Its left end goes with a point or a carried end there, or is an end on the row.
 fn cut(work: &mut [i32], z: Sweep, t: Point, k: Live) -> Sweep
-    requires { ⌜ (z .next ≤ 4096) × (z .given ≤ 16_777_216) × (z .passed < 4096) × (z .ahead < 4096) × (4 * z .passed + 3 < length (now work)) ⌝ }
+    requires { ⌜ (z .next ≤ 4096) × (z .given ≤ 16_777_216) × (z .passed < 4096) × (z .ahead < 4096) × (liveSize * (z .passed + 1) ≤ length (now work)) ⌝ }
     ensures { λ r. ⌜ r ≡ cutTo z t k ⌝ }
     ensures { λ r. ⌜ now (work .exit) ≡ cutWork (now (work .entry)) z t k ⌝ }
 {
@@ -414,23 +375,18 @@ fn place_in_list(k: Live) -> usize
 
 // ---- The next row
 
-fn begin_row(z: Sweep, p: Point, passed: usize, ahead: usize) -> Sweep
+fn begin_row(mut z: Sweep, p: Point, passed: usize, ahead: usize) -> Sweep
     ensures { λ r. ⌜ r ≡ atRow z p passed ahead ⌝ }
 {
-    Sweep {
-        next: z.next,
-        passed: passed,
-        ahead: ahead,
-        given: z.given,
-        row: p.y,
-        carried: z.carried,
-        opened: z.opened,
-    }
+    z.passed = passed;
+    z.ahead = ahead;
+    z.row = p.y;
+    z
 }
 
 // Turns to the row of its first point: the live rectangles that end right of it are ahead again.
 fn turn(work: &mut [i32], z: Sweep, p: Point) -> Sweep
-    requires { ⌜ (z .passed ≤ z .ahead) × (4 * z .ahead ≤ length (now work)) ⌝ }
+    requires { ⌜ (z .passed ≤ z .ahead) × (liveSize * z .ahead ≤ length (now work)) ⌝ }
     ensures { λ r. ⌜ Turned p z (now (work .entry)) r (now (work .exit)) ⌝ }
 {
     let mut passed = z.passed;
@@ -449,11 +405,10 @@ fn turn(work: &mut [i32], z: Sweep, p: Point) -> Sweep
 
 // ---- One move
 
-// The next move of a sweep of accepted points, which stand in this order.
+// The next move of a sweep of the points at these places.
 fn advance(points: &[i32], order: &[u16], work: &mut [i32], z: Sweep) -> Move
-    requires { ⌜ Underway (now points) (now work) z × (now order ≡ rowOrder (pointsOf (now points))) ⌝ }
-    ensures { λ r. ⌜ Advanced (now (points .entry)) z (now (work .entry)) r (now (work .exit)) ⌝ }
-    ensures { λ r. ⌜ KeptPast (2 * (length (now (points .entry)) / 2)) (now (work .entry)) (now (work .exit)) ⌝ }
+    requires { ⌜ Underway (pointsAt (now points) (now order)) (now work) z far ⌝ }
+    ensures { λ r. ⌜ Advanced (pointsAt (now (points .entry)) (now (order .entry))) z (now (work .entry)) r (now (work .exit)) ⌝ }
 {
     let p = next_point(points, order, z.next);
     let t = on_row(z, p);
@@ -494,17 +449,17 @@ fn advance(points: &[i32], order: &[u16], work: &mut [i32], z: Sweep) -> Move
 
 // Puts a rectangle at place i of the output.
 fn put_rect(out: &mut [i32], i: usize, r: Rect)
-    requires { ⌜ 4 * i + 3 < length (now out) ⌝ }
+    requires { ⌜ rectSize * (i + 1) ≤ length (now out) ⌝ }
     ensures { λ u. ⌜ now (out .exit) ≡ putRect (now (out .entry)) i r ⌝ }
 {
     let x = r.x;
     let y = r.y;
     let w = r.w;
     let h = r.h;
-    out[4 * i] = x;
-    out[4 * i + 1] = y;
-    out[4 * i + 2] = w;
-    out[4 * i + 3] = h;
+    out[RECT_SIZE * i] = x;
+    out[RECT_SIZE * i + 1] = y;
+    out[RECT_SIZE * i + 2] = w;
+    out[RECT_SIZE * i + 3] = h;
 }
 
 fn area_of(r: Rect) -> u64
@@ -547,10 +502,9 @@ fn sweep_all(
     rects: &mut [i32],
     writes: bool,
 ) -> ForwardAnswer
-    requires { ⌜ ForwardAccepted (now points) (length (now work)) (4 * length (forwardList (now points))) × (now order ≡ rowOrder (pointsOf (now points))) ⌝ }
-    requires { ⌜ (writes ≡ true → 4 * length (forwardList (now points)) ≤ length (now rects)) ⌝ }
-    ensures { λ r. ⌜ Swept (now (points .entry)) writes (now (rects .entry)) r (now (rects .exit)) ⌝ }
-    ensures { λ r. ⌜ KeptPast (2 * (length (now (points .entry)) / 2)) (now (work .entry)) (now (work .exit)) ⌝ }
+    requires { ⌜ Ready (pointsAt (now points) (now order)) (length (now work)) ⌝ }
+    requires { ⌜ (writes ≡ true → rectSize * length (ruleList (pointsAt (now points) (now order))) ≤ length (now rects)) ⌝ }
+    ensures { λ r. ⌜ Swept (pointsAt (now (points .entry)) (now (order .entry))) writes (now (work .entry)) (now (rects .entry)) r (now (work .exit)) (now (rects .exit)) ⌝ }
 {
     let mut z = start(order.len() / 2);
     let mut made: usize = 0;
@@ -605,9 +559,15 @@ fn no_list(answer: u32, place: u64) -> ForwardAnswer
     }
 }
 
-// Forward of points that are accepted and stand in this order: counts the rectangles, and writes only where all have room.
-fn fracture(points: &[i32], order: &[u16], work: &mut [i32], rects: &mut [i32]) -> ForwardAnswer
-    requires { ⌜ ForwardAccepted (now points) (length (now work)) (4 * length (forwardList (now points))) × (now order ≡ rowOrder (pointsOf (now points))) ⌝ }
+// Forward of accepted points, for which those at these places stand: counts the rectangles, and writes only where all have room.
+fn count_then_write(
+    points: &[i32],
+    order: &[u16],
+    work: &mut [i32],
+    rects: &mut [i32],
+) -> ForwardAnswer
+    requires { ⌜ ForwardAccepted (now points) (length (now work)) (rectSize * length (ruleList (pointsOf (now points)))) ⌝ }
+    requires { ⌜ StandFor (now points) (length (now work)) (now order) ⌝ }
     ensures { λ r. ⌜ r ≡ forwardAnswer (now (points .entry)) (length (now (work .entry))) (length (now (rects .entry))) ⌝ }
     ensures { λ r. ⌜ now (work .exit) ≡ forwardWork (now (points .entry)) (now (work .entry)) (length (now (rects .entry))) ⌝ }
     ensures { λ r. ⌜ now (rects .exit) ≡ forwardOut (now (points .entry)) (length (now (work .entry))) (now (rects .entry)) ⌝ }
@@ -615,7 +575,7 @@ fn fracture(points: &[i32], order: &[u16], work: &mut [i32], rects: &mut [i32]) 
     let n = order.len();
     let counted = sweep_all(points, order, work, rects, false);
     let needed = counted.count;
-    if rects.len() / 4 < needed {
+    if rects.len() / RECT_SIZE < needed {
         zero_start(work, 2 * n);
         return no_list(ROOM, needed as u64);
     }
@@ -667,7 +627,7 @@ pub fn sweep_points(points: &[i32], work: &mut [i32], rects: &mut [i32]) -> Forw
     match check_input(points, work.len(), &mut order) {
         Screen::Clear => {
             let n = points.len() / 2;
-            fracture(points, &order[0..n], work, rects)
+            count_then_write(points, &order[0..n], work, rects)
         }
         Screen::Refused { answer, place } => no_list(answer, place),
     }

@@ -45,4 +45,8 @@ returns-2 c = let l = c .before .before in turning-done (l .before .args .p) (l 
 pub turn-spec : {M : Type 1} → statement M
 turn-spec =
     tie.close
-    (tie.spec Inv-loop μ-loop (λ c. turning-none (c .args .z) (c .args .work .now)) (λ c. search needs) live-at-requires (λ c κs. search needs) (λ c κs. search needs) (λ c. c .before .before .before .before .before .before .loop .inv .kept-past .same-length) returns (λ c. search needs) (λ c. search needs) put-live-requires (λ c. search needs) loop-again (λ c κs. search needs) (λ c. c .before .before .loop .inv .kept-past .same-length) returns-2)
+    (tie.spec
+    Inv-loop μ-loop (λ c. turning-none (c .args .z) (c .args .work .now)) (λ c. search needs) live-at-requires (λ c κs. search needs)
+    (λ c κs. search needs) (λ c. c .before .before .before .before .before .before .loop .inv .kept-past .same-length) returns
+    (λ c. search needs) (λ c. search needs) put-live-requires (λ c. search needs) loop-again (λ c κs. search needs)
+    (λ c. c .before .before .loop .inv .kept-past .same-length) returns-2)

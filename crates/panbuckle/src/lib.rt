@@ -18,6 +18,7 @@ ghost use Rattle.checks.specs.Screens.{screenOf};
 ghost use Rattle.panbuckle.specs.Inner.{held, put, cross, overWidth, sought, Begun, beside, IsHighest, Toggled, OddBeside, Between, most};
 use checks::Screen;
 use checks::check_points;
+use checks::refused;
 pub use outline::backward;
 pub use plane::MOST_POINTS;
 pub use plane::MOST_RECTS;
@@ -324,16 +325,6 @@ fn take_rectangle(work: &mut [i32], n: usize) -> StepAnswer
 }
 
 // ---- Checks
-
-// A refusal of the whole, at place 0.
-fn refused(number: u32) -> Screen
-    ensures { λ r. ⌜ r ≡ Screen.Refused number 0 ⌝ }
-{
-    Screen::Refused {
-        answer: number,
-        place: 0,
-    }
-}
 
 // A step's checks.
 fn check_work(work: &[i32], n: usize) -> Screen

@@ -98,6 +98,10 @@ inOrder (p ∷ ps) = insert p (inOrder ps)
 
 -- ---- Rectangles
 
+-- the most rectangles that backward takes
+abbrev pub mostRects : ℕ
+mostRects = 16384
+
 -- how many numbers a rectangle has in an array
 abbrev pub rectSize : ℕ
 rectSize = 4

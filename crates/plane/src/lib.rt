@@ -12,9 +12,6 @@ pub struct Point {
     pub y: i32,
 }
 
-// How many numbers a rectangle has in an array.
-pub const RECT_SIZE: usize = 4;
-
 // A rectangle: its lower left corner (x, y), its width w and its height h.
 pub struct Rect {
     pub x: i32,

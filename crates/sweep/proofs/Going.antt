@@ -9,18 +9,18 @@ use lib.ListN.{length}
 use lib.IntN.{ℤ}
 use Rattle.plane.specs.declared.Point.{Point}
 use Rattle.plane.specs.Lists.{sum, sumBelow}
-use Rattle.plane.specs.Words.{eqZ}
+use Rattle.plane.specs.Words.{eqZ, mostPoints}
 use Rattle.plane.proofs.Bools.{bit-most}
 use Rattle.plane.proofs.Order.{eqZ-is, eqZ-refl}
 use Rattle.plane.proofs.Sums.{sum-append, sum-last-added, below-next}
 use Rattle.rule.specs.Rows.{Accepted}
-use Rattle.rule.specs.Answers.{forwardList}
+use Rattle.rule.specs.Rule.{ruleList}
 use Rattle.rule.proofs.Bound.{even-length, rule-most}
 use Rattle.live.specs.declared.Live.{Live}
 use Rattle.live.specs.Stands.{far, number, stand, Sweeping}
 use Rattle.live.proofs.Moves.{opens, closes}
 use Rattle.sweep.specs.declared.Sweep.{Sweep}
-use Rattle.sweep.specs.Inner.{putLive, KeptPast, withOpened, closed, newLive, endPut, endPutWork, roomFor, restOf, passedIn, aheadIn, there, Underway, toCome, liveSum}
+use Rattle.sweep.specs.Inner.{putLive, KeptPast, withOpened, closed, newLive, endPut, endPutWork, roomFor, restOf, passedIn, aheadIn, there, Underway, toCome, liveSum, mostBegun}
 use Rattle.sweep.proofs.Kept.{kept-all}
 use Rattle.sweep.proofs.Places.{live-put}
 
@@ -43,10 +43,10 @@ pub room-half : (qs : List Point) → Accepted qs → 2 * roomFor qs ≡ length 
 room-half qs acc = let e = even-length qs acc in let d = e .1 in omega arith
 
 -- their list has at most 4,096 squared rectangles
-pub given-most : (qs : List Point) (g : ℕ) → length qs ≤ 4096 → g ≤ length (ruleList qs) → g ≤ 16_777_216
+pub given-most : (qs : List Point) (g : ℕ) → length qs ≤ mostPoints → g ≤ length (ruleList qs) → g ≤ mostBegun
 given-most qs g few listed =
     let n : ℕ = length qs in
-    let square : n * n ≤ n * 4096 = mul-le-mul-left n few in
+    let square : n * n ≤ n * mostPoints = mul-le-mul-left n few in
     omega (arith, rule-most qs)
 
 -- ---- Sums over live numbers

@@ -2,6 +2,7 @@
 use mathlib.Core.Path.{_≡_, ap, _∙_}
 use Prim.Native.Nat.{ℕ, _/_}
 use native.Mathlib.Omega.{arith}
+use mathlib.Core.Bool.{false}
 use mathlib.Core.List.{List}
 use lib.ListN.{length}
 use lib.IntN.{ℤ}
@@ -9,15 +10,16 @@ use Rattle.plane.specs.declared.Point.{Point}
 use Rattle.plane.specs.Words.{onRow, inColumn, pointsOf, inOrder}
 use Rattle.plane.proofs.Arrays.{length-points}
 use Rattle.plane.proofs.Rising.{rising-once, inOrder-rising, inOrder-of, inOrder-odd, inOrder-length}
-use Rattle.rule.specs.Table.{Accepted, ForwardAccepted}
+use Rattle.rule.specs.Rows.{Accepted}
+use Rattle.rule.specs.Answers.{ForwardAccepted}
 use Rattle.rule.proofs.Canon.{alike-list}
-use Rattle.checks.specs.Screens.{rowOrder}
-use Rattle.checks.proofs.Orders.{order-points-in-order}
-use Rattle.sweep.specs.Inner.{pointsAt, StandFor}
+use Rattle.ordering.specs.Orders.{rowOrder}
+use Rattle.ordering.proofs.Orders.{order-length, row-order-points}
+use Rattle.sweep.specs.Inner.{placedPoints, StandFor}
 
 -- the row order has as many places as there are points
-pub order-places : (a : List ℤ) {order : List ℕ} → Accepted (pointsOf a) → order ≡ rowOrder (pointsOf a) → length order ≡ length a / 2
-order-places a acc e = ap length e ∙ order-points-in-order acc .1 ∙ length-points a
+pub order-places : (a : List ℤ) {order : List ℕ} → order ≡ rowOrder (pointsOf a) → length order ≡ length a / 2
+order-places a e = ap length e ∙ order-length false (pointsOf a) ∙ length-points a
 
 -- accepted points are accepted in order
 in-order-accepted : {ps : List Point} → Accepted ps → Accepted (inOrder ps)
@@ -32,11 +34,11 @@ in-order-accepted {ps} acc = record {
 pub order-stands : {a : List ℤ} {work out : ℕ} {order : List ℕ} → ForwardAccepted a work out → order ≡ rowOrder (pointsOf a) → StandFor a work order
 order-stands {a} {work} {out} {order} acc e =
     let ps : List Point = pointsOf a in
-    let at : pointsAt a order ≡ inOrder ps = rw e (order-points-in-order (acc .points) .0) in
+    let at : placedPoints a order ≡ inOrder ps = rw e (row-order-points ps (acc .points .once)) in
     let many : length (inOrder ps) ≡ length a / 2 = inOrder-length ps (acc .points .once) ∙ length-points a in
     let ordered = in-order-accepted (acc .points) in
     record {
       ready = rw at (record { points = ordered; in-order = inOrder-rising ps; few = omega (arith, acc .few); working = omega (arith, acc .working) });
-      as-many = order-places a (acc .points) e;
+      as-many = order-places a e;
       same-list = rw at (alike-list (inOrder ps) ps ordered (acc .points) (record { parity = λ f. inOrder-odd f ps (acc .points .once) }));
     }

@@ -16,13 +16,14 @@ use Rattle.plane.proofs.Bools.{clash}
 use Rattle.plane.proofs.Sums.{sum-length, count-sum, count-find, below-grows, below-has, below-list}
 use Rattle.plane.proofs.Places.{stretch-none}
 use Rattle.rule.specs.Rule.{ruleList}
-use Rattle.rule.specs.Table.{Accepted, accepted}
 use Rattle.rule.specs.Answers.{written}
+use Rattle.rule.specs.Rows.{Accepted}
+use Rattle.rule.specs.Checks.{accepted}
 use Rattle.live.specs.Stands.{far, rectNo}
 use Rattle.live.proofs.Moves.{starts}
 use Rattle.live.proofs.Numbered.{list-at, rect-no-solid}
 use Rattle.sweep.specs.declared.Sweep.{Sweep}
-use Rattle.sweep.specs.Inner.{putRect, KeptPast, livesOf, startOf, roomFor, aheadIn, Ready, Underway, liveSum, GoesOn, Gives, AllGiven, Swept}
+use Rattle.sweep.specs.Inner.{putRect, KeptPast, livesOf, startOf, roomFor, aheadIn, Ready, Underway, liveSum, GoesOn, Gives, AllGiven, Swept, mostBegun}
 use Rattle.sweep.proofs.Kept.{kept-all, kept-on}
 use Rattle.sweep.proofs.Going.{given-most}
 use Rattle.sweep.proofs.Putting.{Puts, puts-none, puts-next, puts-all}
@@ -103,7 +104,7 @@ sum-within {qs} finished f u e = omega (arith, below-grows (byNumber qs f) (u .s
 
 module _ {qs : List Point} {writes : Bool} {work₀ rects₀ work rects : List ℤ} {z : Sweep} {made area edge : ℕ} (m : Making qs writes work₀ rects₀ work rects z made area edge) where
   -- no more are given than the list has
-  pub made-fits : made ≤ 16_777_216
+  pub made-fits : made ≤ mostBegun
   made-fits =
       let most : sum (λ i. 1) (m .finished) ≤ sum (λ r. 1) (ruleList qs) = sum-within (m .finished) (λ r. 1) (m .underway) (m .tally (λ i. 1)) in
       given-most qs made (m .underway .ready .few) (omega (arith, m .counted, sum-length (m .finished), most, sum-length (ruleList qs)))

@@ -11,7 +11,7 @@ use lib.IntN.{ℤ}
 use lib.Signed.{leZ, ltZ}
 use Rattle.plane.specs.declared.Point.{Point}
 use Rattle.plane.specs.Lists.{sumBelow}
-use Rattle.plane.specs.Words.{eqZ}
+use Rattle.plane.specs.Words.{eqZ, mostPoints}
 use Rattle.plane.proofs.Bools.{cond-case}
 use Rattle.plane.proofs.Order.{order, eqZ-is}
 use Rattle.live.specs.declared.Live.{Live}
@@ -19,7 +19,7 @@ use Rattle.live.specs.Stands.{far, nextOn, stand, IsLive, Sweeping}
 use Rattle.live.proofs.Shown.{live-wide, apart-right, next-near}
 use Rattle.live.proofs.Crossing.{keeps}
 use Rattle.sweep.specs.declared.Sweep.{Sweep}
-use Rattle.sweep.specs.Inner.{liveSize, livesOf, putLive, farLive, nextLive, nearer, takenFrom, passing, endPut, endPutWork, roomFor, restOf, passedIn, aheadIn, Underway, GoesOn}
+use Rattle.sweep.specs.Inner.{liveSize, livesOf, putLive, farLive, nextLive, nearer, takenFrom, passing, endPut, endPutWork, roomFor, restOf, passedIn, aheadIn, Underway, GoesOn, mostBegun}
 use Rattle.sweep.proofs.Places.{live-put, meets}
 use Rattle.sweep.proofs.Going.{given-most, put-room, put-ends}
 use Rattle.sweep.proofs.Taking.{takes}
@@ -92,7 +92,7 @@ module _ {qs : List Point} {work : List ℤ} {z : Sweep} {t : Point} {k : Live} 
           at-place (tail n) = omega (order, live-wide (u .ready .points) (w .given-few) (w .ahead-live k (head refl)), apart-right k others (passedIn work z) (w .apart) j n)
 
   -- it has room
-  pub room-left : ltZ (nearer z t .x) (k .left) ≡ true → let y = takenFrom z t in (y .given ≤ 16_777_216) × (y .passed < 4096) × (liveSize * (y .passed + 1) ≤ length work)
+  pub room-left : ltZ (nearer z t .x) (k .left) ≡ true → let y = takenFrom z t in (y .given ≤ mostBegun) × (y .passed < mostPoints) × (liveSize * (y .passed + 1) ≤ length work)
   room-left e =
       let d = takes u t at other (left-of-all e) in
       let g = d .going in
@@ -126,7 +126,7 @@ module _ {qs : List Point} {work : List ℤ} {z : Sweep} {t : Point} {k : Live} 
     stands = rw (here .1) at (u .sweeping)
 
     -- one more has room
-    pub room-here : (z .next ≤ 4096) × (z .given ≤ 16_777_216) × (z .passed < 4096) × (z .ahead < 4096) × (liveSize * (z .passed + 1) ≤ length work)
+    pub room-here : (z .next ≤ mostPoints) × (z .given ≤ mostBegun) × (z .passed < mostPoints) × (z .ahead < mostPoints) × (liveSize * (z .passed + 1) ≤ length work)
     room-here =
         let i = here .0 in
         let few = u .ready .few in

@@ -13,16 +13,15 @@ use lib.IntN.{ℤ}
 use lib.Dec.{ltb}
 use borrow.Author.Tests.{ltb-true, ltb-false}
 use Rattle.plane.specs.declared.Point.{Point}
-use Rattle.plane.specs.Words.{origin, eqZ, pointsOf}
+use Rattle.plane.specs.Words.{origin, eqZ, pointsOf, pointAt}
 use Rattle.plane.proofs.Bools.{clash, cond-case}
 use Rattle.plane.proofs.Order.{eqZ-is, eqZ-refl}
 use Rattle.plane.proofs.Maps.{map-at}
 use Rattle.plane.proofs.Places.{stretch-next, stretch-none, stretch-set}
-use Rattle.rule.specs.Table.{pointAt}
 use Rattle.live.specs.declared.Live.{Live}
 use Rattle.live.specs.Stands.{far, nextOn}
 use Rattle.sweep.specs.declared.Sweep.{Sweep}
-use Rattle.sweep.specs.Inner.{liveSize, livesOf, zeroLive, liveAt, putLive, KeptPast, farPoint, farLive, nextPoint, nextLive, onRowOf, pointsAt}
+use Rattle.sweep.specs.Inner.{liveSize, livesOf, zeroLive, liveAt, putLive, KeptPast, farPoint, farLive, nextPoint, nextLive, onRowOf, placedPoints}
 use Rattle.sweep.proofs.Lives.{length-lives, lives-put}
 use Rattle.sweep.proofs.Kept.{kept-live}
 
@@ -65,11 +64,11 @@ nextOf [] = farPoint
 nextOf (p ∷ ps) = p
 
 -- the next point is the first of those to come
-pub next-is-first : (a : List ℤ) (order : List ℕ) (i : ℕ) → nextPoint a order i ≡ nextOf (drop i (pointsAt a order))
+pub next-is-first : (a : List ℤ) (order : List ℕ) (i : ℕ) → nextPoint a order i ≡ nextOf (drop i (placedPoints a order))
 next-is-first a order i = go (ltb i (length order)) refl
   where
     qs : List Point
-    qs = pointsAt a order
+    qs = placedPoints a order
 
     many : length qs ≡ length order
     many = length-map order (pointAt (pointsOf a))

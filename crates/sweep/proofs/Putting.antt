@@ -11,7 +11,7 @@ use lib.Dec.{eqb}
 use borrow.Author.Tests.{eqb-true, eqb-false}
 use Rattle.plane.specs.declared.Point.{Point}
 use Rattle.plane.specs.declared.Rect.{Rect}
-use Rattle.plane.specs.Words.{rectSize, rectsOf, flatRects}
+use Rattle.plane.specs.Words.{rectSize, rectsOf, flatRects, rectAt}
 use Rattle.plane.proofs.Arrays.{length-rects, length-flat-rects, rects-rest, rects-set}
 use Rattle.rule.specs.Rule.{ruleList}
 use Rattle.rule.specs.Answers.{written}

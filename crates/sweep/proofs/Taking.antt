@@ -8,7 +8,7 @@ use lib.ListN.{length}
 use lib.IntN.{ℤ}
 use lib.Signed.{ltZ}
 use Rattle.plane.specs.declared.Point.{Point}
-use Rattle.plane.specs.Words.{eqZ}
+use Rattle.plane.specs.Words.{eqZ, mostPoints}
 use Rattle.plane.proofs.Bools.{cond-case, bit-most}
 use Rattle.plane.proofs.Order.{order, eqZ-refl}
 use Rattle.plane.proofs.Places.{rest-next}
@@ -31,7 +31,7 @@ taken-ahead z t = cond-case (λ (y : Sweep). y .ahead ≡ z .ahead) (ltZ (t .x) 
 -- ---- What is to come
 
 -- with a point less, less is to come
-pub point-less : (qs : List Point) (z at : Sweep) → length qs ≤ 4096 → z .next < length qs → at .next ≡ z .next + 1 → toCome qs at < toCome qs z
+pub point-less : (qs : List Point) (z at : Sweep) → length qs ≤ mostPoints → z .next < length qs → at .next ≡ z .next + 1 → toCome qs at < toCome qs z
 point-less qs z at few h e =
     let most = bit-most (eqZ (nextOn (at .row) (restOf qs at)) far) in
     let one = there-most (at .carried) in

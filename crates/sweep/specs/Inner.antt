@@ -3,7 +3,7 @@ use Prim.Native.Nat.{ℕ, _+_, _-_, _*_, _/_, _<_, _≤_}
 use mathlib.Core.Path.{_≡_}
 use mathlib.Core.Logic.{_⊎_}
 use mathlib.Core.Bool.{Bool, true, not, cond}
-use mathlib.Core.List.{List, [], _∷_, _++_, map}
+use mathlib.Core.List.{List, [], _∷_, _++_}
 use lib.ListN.{length, getD, take, drop, set, replicate}
 use lib.IntN.{ℤ, pos, _-ℤ_}
 use lib.Signed.{leZ, ltZ}
@@ -11,12 +11,11 @@ use lib.Dec.{ltb}
 use Rattle.plane.specs.declared.Point.{Point}
 use Rattle.plane.specs.declared.Rect.{Rect}
 use Rattle.plane.specs.Lists.{bit, sum, sumBelow}
-use Rattle.plane.specs.Words.{eqZ, pointsOf, rectSize, foursOf, flatRects, rising}
+use Rattle.plane.specs.Words.{eqZ, pointsOf, rectSize, foursOf, flatRects, rising, pointAt, mostPoints}
 use Rattle.rule.specs.declared.ForwardAnswer.{ForwardAnswer}
 use Rattle.rule.specs.Rule.{ruleList}
-use Rattle.rule.specs.Table.{Check, LENGTH, MANY, WORK, pointAt, pointChecks, Accepted, accepted, verdict}
-use Rattle.rule.specs.Answers.{forwardSays, written}
-use Rattle.ordering.specs.Orders.{rowOrder}
+use Rattle.rule.specs.Answers.{forwardSays, written, forwardList, sumsOf}
+use Rattle.ordering.specs.Orders.{rowOrder, pointsAt}
 use Rattle.rule.specs.Checks.{Check, accepted, verdict}
 use Rattle.rule.specs.Rows.{LENGTH, MANY, WORK, pointChecks, Accepted}
 use Rattle.live.specs.declared.Live.{Live}
@@ -193,8 +192,8 @@ pub record Turned (p : Point) (z : Sweep) (before : List ℤ) (r : Sweep) (after
 -- ---- A sweep of points
 
 -- the points of an array at some places
-abbrev pub pointsAt : (a : List ℤ) (order : List ℕ) → List Point
-pointsAt a order = map (pointAt (pointsOf a)) order
+abbrev pub placedPoints : (a : List ℤ) (order : List ℕ) → List Point
+placedPoints a order = pointsAt (pointsOf a) order
 
 -- how many live rectangles the working array has room for
 abbrev pub roomFor : List Point → ℕ
@@ -224,8 +223,12 @@ there x = bit (not (eqZ x far))
 pub record Ready (qs : List Point) (work : ℕ) : Type 0 where
   pub points : Accepted qs
   pub in-order : rising qs ≡ true
-  pub few : length qs ≤ 4096
+  pub few : length qs ≤ mostPoints
   pub working : 2 * length qs ≤ work
+
+-- more rectangles than so many points have
+abbrev pub mostBegun : ℕ
+mostBegun = mostPoints * mostPoints
 
 -- a sweep of them is under way, with a point in hand or none
 pub record Underway (qs : List Point) (work : List ℤ) (z : Sweep) (hand : ℤ) : Type 0 where
@@ -289,14 +292,14 @@ Advanced qs z before (Refused k p) after = (moveNumber (Refused k p) ≡ 10) × 
 -- the list is counted and summed, and written if asked for
 pub record Swept (qs : List Point) (writes : Bool) (work before : List ℤ) (r : ForwardAnswer) (work-after after : List ℤ) : Type 0 where
   pub kept : KeptPast (2 * length qs) work work-after
-  pub answer : r ≡ forwardSays accepted (ruleList qs)
+  pub answer : r ≡ forwardSays accepted (sumsOf (ruleList qs))
   pub output : after ≡ cond writes (written accepted (flatRects (ruleList qs)) before) before
 
 -- ---- Checks
 
 -- forward's checks before the room is known: 1, 2, 3, 4, 5, 6, 7
 unfoldable pub inputChecks : (a : List ℤ) (work : ℕ) → List Check
-inputChecks a work = LENGTH (length a) 2 ∷ MANY 4096 (length a / 2) ∷ WORK work (length a / 2) ∷ pointChecks (pointsOf a)
+inputChecks a work = LENGTH (length a) 2 ∷ MANY mostPoints (length a / 2) ∷ WORK work (length a / 2) ∷ pointChecks (pointsOf a)
 
 -- where they refuse nothing, places begin with those of the points in order
 pub record Ordered (a : List ℤ) (work : ℕ) (order : List ℕ) : Type 0 where
@@ -306,6 +309,6 @@ pub record Ordered (a : List ℤ) (work : ℕ) (order : List ℕ) : Type 0 where
 
 -- the points at places stand for all of an array: they can be swept, are as many, and have the same list
 pub record StandFor (a : List ℤ) (work : ℕ) (order : List ℕ) : Type 0 where
-  pub ready : Ready (pointsAt a order) work
+  pub ready : Ready (placedPoints a order) work
   pub as-many : length order ≡ length a / 2
-  pub same-list : ruleList (pointsAt a order) ≡ ruleList (pointsOf a)
+  pub same-list : ruleList (placedPoints a order) ≡ forwardList a

@@ -12,18 +12,20 @@ ghost use lib.ListN.{length};
 ghost use lib.IntN.{pos, _-ℤ_};
 ghost use lib.Signed.{ltZ, leZ};
 ghost use Prim.Native.Nat.{_+_, _*_, _<_, _≤_};
-ghost use Rattle.plane.specs.Words.{eqZ, pointsOf, rectSize, flat, areaOf, edgeOf};
+ghost use Rattle.plane.specs.Words.{eqZ, rectSize, flat, areaOf, edgeOf, mostPoints};
 ghost use Rattle.rule.specs.Rule.{ruleList};
-ghost use Rattle.rule.specs.Table.{verdict, ForwardAccepted};
-ghost use Rattle.rule.specs.Answers.{forwardAnswer, forwardWork, forwardOut};
+ghost use Rattle.rule.specs.Answers.{ForwardAccepted, forwardList, ForwardDone};
+ghost use Rattle.rule.specs.Checks.{verdict};
 ghost use Rattle.checks.specs.Screens.{screenOf};
 ghost use Rattle.live.specs.Stands.{far, number};
 ghost use Rattle.sweep.specs.Inner.{putRect, liveSize, liveAt, putLive, zeroed, farPoint, farLive, nextPoint, nextLive, onRowOf, carriedPoint, nearer};
 ghost use Rattle.sweep.specs.Inner.{afterPoint, withCarried, withOpened, startOf, cancelled, takenFrom, closed, newLive, endPut, endPutWork, passing, carrying, leftEnd, cutTo, cutWork};
-ghost use Rattle.sweep.specs.Inner.{endedBox, atRow, Turned, pointsAt, Ready, Underway, Advanced, Swept, inputChecks, Ordered, StandFor};
+ghost use Rattle.sweep.specs.Inner.{endedBox, atRow, Turned, placedPoints, Ready, Underway, Advanced, Swept, inputChecks, Ordered, StandFor, mostBegun};
 use checks::Screen;
 use checks::order_points;
+use checks::refused;
 use live::Live;
+use plane::MOST_POINTS;
 use plane::Point;
 use plane::RECT_SIZE;
 use plane::Rect;
@@ -228,7 +230,7 @@ fn is_passed_by(p: Point, k: Live) -> bool
 
 // The point and the right end carried go.
 fn cancel(mut z: Sweep) -> Sweep
-    requires { ⌜ z .next ≤ 4096 ⌝ }
+    requires { ⌜ z .next ≤ mostPoints ⌝ }
     ensures { λ r. ⌜ r ≡ cancelled z ⌝ }
 {
     z.next += 1;
@@ -237,7 +239,7 @@ fn cancel(mut z: Sweep) -> Sweep
 }
 
 fn after_point(mut z: Sweep) -> Sweep
-    requires { ⌜ z .next ≤ 4096 ⌝ }
+    requires { ⌜ z .next ≤ mostPoints ⌝ }
     ensures { λ r. ⌜ r ≡ afterPoint z ⌝ }
 {
     z.next += 1;
@@ -253,7 +255,7 @@ fn without_carried(mut z: Sweep) -> Sweep
 
 // The nearer of the point and the right end carried is taken.
 fn taken(z: Sweep, t: Point) -> Sweep
-    requires { ⌜ z .next ≤ 4096 ⌝ }
+    requires { ⌜ z .next ≤ mostPoints ⌝ }
     ensures { λ r. ⌜ r ≡ takenFrom z t ⌝ }
 {
     if is_before_carried(z, t) {
@@ -273,7 +275,7 @@ fn open_at(mut z: Sweep, v: Point) -> Sweep
 
 // The live rectangle from the end that is open to this one.
 fn new_live(z: Sweep, v: Point) -> Live
-    requires { ⌜ z .given ≤ 16_777_216 ⌝ }
+    requires { ⌜ z .given ≤ mostBegun ⌝ }
     ensures { λ r. ⌜ r ≡ newLive z v ⌝ }
 {
     Live {
@@ -285,7 +287,7 @@ fn new_live(z: Sweep, v: Point) -> Live
 }
 
 fn close_open(mut z: Sweep) -> Sweep
-    requires { ⌜ (z .given ≤ 16_777_216) × (z .passed < 4096) ⌝ }
+    requires { ⌜ (z .given ≤ mostBegun) × (z .passed < mostPoints) ⌝ }
     ensures { λ r. ⌜ r ≡ closed z ⌝ }
 {
     z.passed += 1;
@@ -296,7 +298,7 @@ fn close_open(mut z: Sweep) -> Sweep
 
 // An end on the row: it opens a rectangle, or closes the one that is open.
 fn put_end(work: &mut [i32], z: Sweep, v: Point) -> Sweep
-    requires { ⌜ (z .given ≤ 16_777_216) × (z .passed < 4096) × (liveSize * (z .passed + 1) ≤ length (now work)) ⌝ }
+    requires { ⌜ (z .given ≤ mostBegun) × (z .passed < mostPoints) × (liveSize * (z .passed + 1) ≤ length (now work)) ⌝ }
     ensures { λ r. ⌜ r ≡ endPut z v ⌝ }
     ensures { λ r. ⌜ now (work .exit) ≡ endPutWork (now (work .entry)) z v ⌝ }
 {
@@ -311,7 +313,7 @@ fn put_end(work: &mut [i32], z: Sweep, v: Point) -> Sweep
 
 // The next one ahead goes on.
 fn pass(mut z: Sweep) -> Sweep
-    requires { ⌜ (z .passed < 4096) × (z .ahead < 4096) ⌝ }
+    requires { ⌜ (z .passed < mostPoints) × (z .ahead < mostPoints) ⌝ }
     ensures { λ r. ⌜ r ≡ passing z ⌝ }
 {
     z.passed += 1;
@@ -321,7 +323,7 @@ fn pass(mut z: Sweep) -> Sweep
 
 // It ends, and its right end is carried.
 fn carry(mut z: Sweep, k: Live) -> Sweep
-    requires { ⌜ z .ahead < 4096 ⌝ }
+    requires { ⌜ z .ahead < mostPoints ⌝ }
     ensures { λ r. ⌜ r ≡ carrying z k ⌝ }
 {
     z.ahead += 1;
@@ -340,7 +342,7 @@ fn left_end(z: Sweep, k: Live) -> Point
 
 // The next one ahead ends. Its left end goes with a point or a carried end there, or is an end on the row.
 fn cut(work: &mut [i32], z: Sweep, t: Point, k: Live) -> Sweep
-    requires { ⌜ (z .next ≤ 4096) × (z .given ≤ 16_777_216) × (z .passed < 4096) × (z .ahead < 4096) × (liveSize * (z .passed + 1) ≤ length (now work)) ⌝ }
+    requires { ⌜ (z .next ≤ mostPoints) × (z .given ≤ mostBegun) × (z .passed < mostPoints) × (z .ahead < mostPoints) × (liveSize * (z .passed + 1) ≤ length (now work)) ⌝ }
     ensures { λ r. ⌜ r ≡ cutTo z t k ⌝ }
     ensures { λ r. ⌜ now (work .exit) ≡ cutWork (now (work .entry)) z t k ⌝ }
 {
@@ -407,8 +409,8 @@ fn turn(work: &mut [i32], z: Sweep, p: Point) -> Sweep
 
 // The next move of a sweep of the points at these places.
 fn advance(points: &[i32], order: &[u16], work: &mut [i32], z: Sweep) -> Move
-    requires { ⌜ Underway (pointsAt (now points) (now order)) (now work) z far ⌝ }
-    ensures { λ r. ⌜ Advanced (pointsAt (now (points .entry)) (now (order .entry))) z (now (work .entry)) r (now (work .exit)) ⌝ }
+    requires { ⌜ Underway (placedPoints (now points) (now order)) (now work) z far ⌝ }
+    ensures { λ r. ⌜ Advanced (placedPoints (now (points .entry)) (now (order .entry))) z (now (work .entry)) r (now (work .exit)) ⌝ }
 {
     let p = next_point(points, order, z.next);
     let t = on_row(z, p);
@@ -502,9 +504,9 @@ fn sweep_all(
     rects: &mut [i32],
     writes: bool,
 ) -> ForwardAnswer
-    requires { ⌜ Ready (pointsAt (now points) (now order)) (length (now work)) ⌝ }
-    requires { ⌜ (writes ≡ true → rectSize * length (ruleList (pointsAt (now points) (now order))) ≤ length (now rects)) ⌝ }
-    ensures { λ r. ⌜ Swept (pointsAt (now (points .entry)) (now (order .entry))) writes (now (work .entry)) (now (rects .entry)) r (now (work .exit)) (now (rects .exit)) ⌝ }
+    requires { ⌜ Ready (placedPoints (now points) (now order)) (length (now work)) ⌝ }
+    requires { ⌜ (writes ≡ true → rectSize * length (ruleList (placedPoints (now points) (now order))) ≤ length (now rects)) ⌝ }
+    ensures { λ r. ⌜ Swept (placedPoints (now (points .entry)) (now (order .entry))) writes (now (work .entry)) (now (rects .entry)) r (now (work .exit)) (now (rects .exit)) ⌝ }
 {
     let mut z = start(order.len() / 2);
     let mut made: usize = 0;
@@ -566,11 +568,9 @@ fn count_then_write(
     work: &mut [i32],
     rects: &mut [i32],
 ) -> ForwardAnswer
-    requires { ⌜ ForwardAccepted (now points) (length (now work)) (rectSize * length (ruleList (pointsOf (now points)))) ⌝ }
+    requires { ⌜ ForwardAccepted (now points) (length (now work)) (rectSize * length (forwardList (now points))) ⌝ }
     requires { ⌜ StandFor (now points) (length (now work)) (now order) ⌝ }
-    ensures { λ r. ⌜ r ≡ forwardAnswer (now (points .entry)) (length (now (work .entry))) (length (now (rects .entry))) ⌝ }
-    ensures { λ r. ⌜ now (work .exit) ≡ forwardWork (now (points .entry)) (now (work .entry)) (length (now (rects .entry))) ⌝ }
-    ensures { λ r. ⌜ now (rects .exit) ≡ forwardOut (now (points .entry)) (length (now (work .entry))) (now (rects .entry)) ⌝ }
+    ensures { λ r. ⌜ ForwardDone (now (points .entry)) (now (work .entry)) (now (rects .entry)) r (now (work .exit)) (now (rects .exit)) ⌝ }
 {
     let n = order.len();
     let counted = sweep_all(points, order, work, rects, false);
@@ -586,18 +586,8 @@ fn count_then_write(
 
 // ---- Checks
 
-// A refusal of the whole, at place 0.
-fn refused(number: u32) -> Screen
-    ensures { λ r. ⌜ r ≡ Screen.Refused number 0 ⌝ }
-{
-    Screen::Refused {
-        answer: number,
-        place: 0,
-    }
-}
-
 // Forward's checks before the room is known. Where nothing is refused, `order` begins with the places of the points in order.
-fn check_input(points: &[i32], work: usize, order: &mut [u16; 4096]) -> Screen
+fn check_input(points: &[i32], work: usize, order: &mut [u16; MOST_POINTS]) -> Screen
     ensures { λ r. ⌜ r ≡ screenOf (verdict (inputChecks (now (points .entry)) work)) ⌝ }
     ensures { λ r. ⌜ Ordered (now (points .entry)) work (now (order .exit)) ⌝ }
 {
@@ -605,7 +595,7 @@ fn check_input(points: &[i32], work: usize, order: &mut [u16; 4096]) -> Screen
     if points.len() % 2 != 0 {
         return refused(LENGTH);
     }
-    if 4096 < n {
+    if MOST_POINTS < n {
         return refused(MANY);
     }
     if work < 2 * n {
@@ -619,11 +609,9 @@ fn check_input(points: &[i32], work: usize, order: &mut [u16; 4096]) -> Screen
 // The rectangles of the array's points, written to `rects`, with their count, area and edge; or a refusal, which leaves `rects` as it
 // was. `points` is only read; `work` needs two numbers for each point.
 pub fn sweep_points(points: &[i32], work: &mut [i32], rects: &mut [i32]) -> ForwardAnswer
-    ensures { λ r. ⌜ r ≡ forwardAnswer (now (points .entry)) (length (now (work .entry))) (length (now (rects .entry))) ⌝ }
-    ensures { λ r. ⌜ now (work .exit) ≡ forwardWork (now (points .entry)) (now (work .entry)) (length (now (rects .entry))) ⌝ }
-    ensures { λ r. ⌜ now (rects .exit) ≡ forwardOut (now (points .entry)) (length (now (work .entry))) (now (rects .entry)) ⌝ }
+    ensures { λ r. ⌜ ForwardDone (now (points .entry)) (now (work .entry)) (now (rects .entry)) r (now (work .exit)) (now (rects .exit)) ⌝ }
 {
-    let mut order: [u16; 4096] = [0; 4096];
+    let mut order: [u16; MOST_POINTS] = [0; MOST_POINTS];
     match check_input(points, work.len(), &mut order) {
         Screen::Clear => {
             let n = points.len() / 2;

@@ -10,13 +10,12 @@ use lib.Signed.{ltZ}
 use borrow.Author.Tests.{not-true, not-false}
 use borrow.Author.Needs.{needs}
 use Rattle.plane.specs.declared.Point.{Point}
-use Rattle.plane.specs.Words.{eqZ, pointsOf}
+use Rattle.plane.specs.Words.{eqZ, pointsOf, pointAt, mostPoints}
 use Rattle.plane.proofs.Bools.{or-parts, or-one}
-use Rattle.rule.specs.Table.{pointAt}
 use Rattle.live.specs.Stands.{far, nextOn}
 use Rattle.live.specs.declared.Live.{Live}
 use Rattle.sweep.specs.declared.Sweep.{Sweep}
-use Rattle.sweep.specs.Inner.{nextLive, onRowOf, nearer, pointsAt, roomFor, restOf}
+use Rattle.sweep.specs.Inner.{nextLive, onRowOf, nearer, placedPoints, roomFor, restOf}
 use Rattle.sweep.proofs.Places.{nextOf, next-is-first, on-row-at}
 use Rattle.sweep.proofs.Taking.{goes-cancelled}
 use Rattle.sweep.proofs.NextRow.{RowDone, turns-on, stops}
@@ -29,7 +28,7 @@ use Rattle.sweep.proofs.advance.Tie as tie
 
 -- the points that are swept
 abbrev swept : tie.Start → List Point
-swept s = pointsAt (s .args .points .now) (s .args .order .now)
+swept s = placedPoints (s .args .points .now) (s .args .order .now)
 
 -- the next point is the first of those to come
 next-is : (c : tie.After-next-point) → let s = c .before .before in c .next-point .result ≡ nextOf (restOf (swept s) (s .args .z))
@@ -44,7 +43,7 @@ at-next : (o : tie.After-on-row) → let z = start o .args .z in o .on-row .resu
 at-next o = let z = start o .args .z in ap (λ (p : Point). p .x) (o .on-row .ensures) ∙ ap (λ (p : Point). onRowOf z p .x) (next-is (o .before)) ∙ on-row-at z (restOf (swept (start o)) z)
 
 -- one point more is no more than all
-next-few : (s : tie.Start) → s .args .z .next ≤ 4096
+next-few : (s : tie.Start) → s .args .z .next ≤ mostPoints
 next-few s = omega (arith, s .pre .next-within, s .pre .ready .few)
 
 -- ---- A point and the right end carried cancel, or the row is done

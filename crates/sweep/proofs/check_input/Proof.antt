@@ -16,7 +16,6 @@ use Rattle.rule.specs.Rows.{pointChecks}
 use Rattle.rule.specs.Checks.{refused, verdict}
 use Rattle.checks.specs.Screens.{screenOf}
 use Rattle.sweep.specs.Inner.{inputChecks, Ordered}
-use Rattle.sweep.proofs.InOrder.{order-places}
 use Rattle.sweep.proofs.check_input.Statement.{statement}
 use Rattle.sweep.proofs.check_input.Tie as tie
 

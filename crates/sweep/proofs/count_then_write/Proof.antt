@@ -8,13 +8,11 @@ use lib.ListN.{length, length-map}
 use lib.IntN.{ℤ}
 use borrow.Author.Needs.{needs}
 use Rattle.plane.specs.declared.Rect.{Rect}
-use Rattle.plane.specs.Words.{pointsOf, rectSize}
+use Rattle.plane.specs.Words.{pointsOf, rectSize, pointAt}
 use Rattle.plane.proofs.Bools.{clash}
-use Rattle.rule.specs.Rule.{ruleList}
-use Rattle.rule.specs.Table.{pointAt}
-use Rattle.rule.specs.Answers.{forwardAnswer, forwardWork, forwardOut}
+use Rattle.rule.specs.Answers.{forwardAnswer, forwardWork, forwardOut, forwardList}
 use Rattle.rule.proofs.Refusals.{accepted-with-room, forward-accepted, forward-lacks-room}
-use Rattle.sweep.specs.Inner.{KeptPast, pointsAt}
+use Rattle.sweep.specs.Inner.{KeptPast, placedPoints}
 use Rattle.sweep.proofs.Kept.{kept-on, kept-drained}
 use Rattle.sweep.proofs.count_then_write.Statement.{statement}
 use Rattle.sweep.proofs.count_then_write.Tie as tie
@@ -34,7 +32,7 @@ many : (s : tie.Start) → length (s .args .order .now) ≡ length (points s) / 
 many s = s .pre .1 .as-many
 
 -- and so are the points that are swept
-swept : (s : tie.Start) → length (pointsAt (points s) (s .args .order .now)) ≡ length (points s) / 2
+swept : (s : tie.Start) → length (placedPoints (points s) (s .args .order .now)) ≡ length (points s) / 2
 swept s = length-map (s .args .order .now) (pointAt (pointsOf (points s))) ∙ many s
 
 sweep-all-requires : tie.Need-sweep-all-requires
@@ -65,7 +63,11 @@ returns c =
     let s = start-of d in
     let l : length (s .args .rects .now) / rectSize < length (rects s) = omega (arith, needed d, z .before .before .if1 .taken, same-rects d) in
     let v = forward-lacks-room (points s) (length (work s)) (length (s .args .rects .now)) (length (rects s)) .1 (s .pre .0, refl, l) in
-    (rw (v, ← needed d) (c .no-list .ensures), (rw v (z .zero-start .ensures ∙ kept-drained (swept s) (many s) (d .sweep-all .ensures .kept)), rw v (d .sweep-all .ensures .output)))
+    record {
+      answer = rw (v, ← needed d) (c .no-list .ensures);
+      working = rw v (z .zero-start .ensures ∙ kept-drained (swept s) (many s) (d .sweep-all .ensures .kept));
+      output = rw v (d .sweep-all .ensures .output);
+    }
 
 abbrev counted : tie.Else1 → tie.After-sweep-all
 counted c = c .before .before .before
@@ -85,7 +87,7 @@ abbrev room-of : tie.After-sweep-all2 → tie.Else1
 room-of e = e .before .before .before
 
 -- both sweeps change only the start of the working array
-kept : (e : tie.After-sweep-all2) → let s = start-of (counted (room-of e)) in KeptPast (2 * length (pointsAt (points s) (s .args .order .now))) (work s) (e .sweep-all2 .last .1 .1 .0)
+kept : (e : tie.After-sweep-all2) → let s = start-of (counted (room-of e)) in KeptPast (2 * length (placedPoints (points s) (s .args .order .now))) (work s) (e .sweep-all2 .last .1 .1 .0)
 kept e = kept-on (counted (room-of e) .sweep-all .ensures .kept) (e .sweep-all2 .ensures .kept)
 
 zero-start-requires-2 : tie.Need-zero-start-requires-2
@@ -103,7 +105,11 @@ returns-2 c =
     let d = counted o in
     let s = start-of d in
     let v = forward-accepted (points s) (length (work s)) (length (s .args .rects .now)) .1 (accepted-with-room (s .pre .0) (has-room o)) in
-    (rw (v, ← s .pre .1 .same-list) (e .sweep-all2 .ensures .answer), (rw v (z .zero-start2 .ensures ∙ kept-drained (swept s) (many s) (kept e)), rw (v, ← d .sweep-all .ensures .output, ← s .pre .1 .same-list) (e .sweep-all2 .ensures .output)))
+    record {
+      answer = rw (v, ← s .pre .1 .same-list) (e .sweep-all2 .ensures .answer);
+      working = rw v (z .zero-start2 .ensures ∙ kept-drained (swept s) (many s) (kept e));
+      output = rw (v, ← d .sweep-all .ensures .output, ← s .pre .1 .same-list) (e .sweep-all2 .ensures .output);
+    }
 
 pub count-then-write-spec : {M : Type 1} → statement M
 count-then-write-spec =

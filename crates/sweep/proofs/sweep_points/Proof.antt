@@ -10,8 +10,7 @@ use lib.IntN.{ℤ}
 use borrow.Author.Needs.{needs}
 use borrow.Author.Tests.{ne-eqb}
 use Rattle.plane.specs.Words.{pointsOf, rectSize}
-use Rattle.rule.specs.Rule.{ruleList}
-use Rattle.rule.specs.Answers.{forwardAnswer, forwardWork, forwardOut, ForwardAccepted}
+use Rattle.rule.specs.Answers.{forwardAnswer, forwardWork, forwardOut, ForwardAccepted, forwardList}
 use Rattle.ordering.specs.Orders.{rowOrder}
 use Rattle.rule.specs.Checks.{verdict, accepted}
 use Rattle.checks.proofs.Screens.{screen-clear, screen-refused}
@@ -41,7 +40,7 @@ clear : (m : tie.After-enum-told) → verdict (inputChecks (array (checked m)) (
 clear m = let d = checked m in screen-clear (verdict (inputChecks (array d) (work d))) (sym (d .check-input .ensures .0) ∙ m .enum-told .given .1)
 
 -- so the points are accepted where the list has room
-ready : (m : tie.After-enum-told) → let d = checked m in ForwardAccepted (array d) (work d) (rectSize * length (ruleList (pointsOf (array d))))
+ready : (m : tie.After-enum-told) → let d = checked m in ForwardAccepted (array d) (work d) (rectSize * length (forwardList (array d)))
 ready m = input-accepted (array (checked m)) (work (checked m)) (clear m)
 
 -- and their places stand in order
@@ -52,7 +51,7 @@ part-count-then-write-end : tie.Need-part-count-then-write-end
 part-count-then-write-end c =
     let m = c .before in
     let d = checked m in
-    omega (arith, order-places _ (ready m .points) (in-order m), length-take (length (array d) / 2) (d .check-input .last .1 .1 .0))
+    omega (arith, order-places _ (in-order m), length-take (length (array d) / 2) (d .check-input .last .1 .1 .0))
 
 count-then-write-requires : tie.Need-count-then-write-requires
 count-then-write-requires c κs =
@@ -67,7 +66,7 @@ returns-2 c =
     let v = screen-refused (verdict (inputChecks (array d) (work d))) (sym (d .check-input .ensures .0) ∙ m .answer .given .1) in
     let r = input-refused (array d) (work d) (length (start d .args .rects .now)) v in
     let n = ne-eqb (m .answer .given .0 .0) 8 (input-refused-not-8 (array d) (work d) v) in
-    (rw r (c .no-list .ensures), (rw (r, n), rw r))
+    record { answer = rw r (c .no-list .ensures); working = rw (r, n); output = rw r }
 
 pub sweep-points-spec : {M : Type 1} → statement M
 sweep-points-spec =

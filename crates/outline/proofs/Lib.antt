@@ -4,5 +4,4 @@ pub mod Climbs
 pub mod Cancelling
 pub mod Gathering
 pub mod Batches
-pub mod Outcomes
 pub mod Kept

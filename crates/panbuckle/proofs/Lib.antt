@@ -3,7 +3,6 @@ pub mod Toggling
 pub mod Taking
 pub mod Copied
 pub mod StopRow
-pub mod Outcomes
 pub mod Kept
 pub mod BothWays
 pub mod Stepping

@@ -20,12 +20,12 @@ use Rattle.rule.proofs.Refusals.{forward-accepts-exactly, forward-needs, forwar
 use Rattle.rule.proofs.Steps.{accepted-step}
 use Rattle.rule.proofs.Bound.{rule-ends}
 use Rattle.rule.proofs.Memory.{work-length, work-points, work-again, drained-step, taken-step, forward-drained-work}
+use Rattle.rule.proofs.Outcomes.{step-one-outcome}
 use Rattle.panbuckle.specs.Inner.{held}
 use Rattle.panbuckle.specs.Calls.{copied, Stepped, emptied, another, Reached, at-start, onward}
 use Rattle.panbuckle.proofs.Scan.{held-length}
 use Rattle.panbuckle.proofs.Taking.{Holds, holds-ready}
 use Rattle.panbuckle.proofs.Copied.{copied-points, copied-drained, copied-holds}
-use Rattle.panbuckle.proofs.Outcomes.{step-one-outcome}
 
 -- ---- One call
 

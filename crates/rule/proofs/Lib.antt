@@ -15,3 +15,4 @@ pub mod Backward
 pub mod RoundTrip
 pub mod Demands
 pub mod Memory
+pub mod Outcomes

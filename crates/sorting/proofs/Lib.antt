@@ -1,3 +1,2 @@
 pub mod Sorted
 pub mod Swaps
-pub mod Outcomes

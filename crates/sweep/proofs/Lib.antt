@@ -11,4 +11,3 @@ pub mod NextRow
 pub mod Putting
 pub mod Making
 pub mod BeforeRoom
-pub mod Outcomes

@@ -3,8 +3,5 @@ use borrow.Author.Needs.{needs}
 use Rattle.panbuckle.proofs.forward.Statement.{statement}
 use Rattle.panbuckle.proofs.forward.Tie as tie
 
-returns : tie.Need-returns
-returns c = let s = c .before .before .sweep-points .ensures in record { answer = s .0; working = s .1 .0; output = s .1 .1 }
-
 pub forward-spec : {M : Type 1} → statement M
-forward-spec = tie.close (tie.spec (λ c κs. search needs) (λ c. search needs) (λ c. search needs) returns)
+forward-spec = tie.close (tie.spec (λ c κs. search needs) (λ c. search needs) (λ c. search needs) (λ c. search needs))

@@ -23,7 +23,7 @@ use Rattle.sweep.specs.declared.Sweep.{Sweep}
 use Rattle.sweep.specs.declared.Move.{Move}
 use Rattle.sweep.specs.declared.Move.the-variants.{Onward, Rectangle, Refused}
 
--- ---- Arrays
+-- ---- Rectangles in an array
 
 -- an array with four numbers put from a place on
 abbrev pub putFour : List ℤ → (from : ℕ) → (p q r s : ℤ) → List ℤ
@@ -41,7 +41,7 @@ liveSize = 4
 abbrev pub livesOf : List ℤ → List Live
 livesOf a = foursOf (λ left right row place. record { left = left; right = right; row = row; place = place }) a
 
--- zeros as one
+-- one of zeros
 abbrev pub zeroLive : Live
 zeroLive = record { left = pos 0; right = pos 0; row = pos 0; place = pos 0 }
 
@@ -52,6 +52,8 @@ liveAt a i = getD (livesOf a) i zeroLive
 -- an array with one put at place i
 abbrev pub putLive : List ℤ → ℕ → Live → List ℤ
 putLive a i k = putFour a (liveSize * i) (k .left) (k .right) (k .row) (k .place)
+
+-- ---- An array's start
 
 -- past its first n numbers an array is as it was, and as long
 pub record KeptPast (n : ℕ) (before after : List ℤ) : Type 0 where
@@ -92,7 +94,7 @@ carriedPoint z = record { x = z .carried; y = z .row }
 abbrev pub nearer : Sweep → Point → Point
 nearer z t = cond (ltZ (t .x) (z .carried)) t (carriedPoint z)
 
--- ---- Where a sweep stands, but for one thing
+-- ---- One thing changed of where the sweep stands
 
 -- after its next point
 abbrev pub afterPoint : Sweep → Sweep
@@ -218,7 +220,7 @@ standOf qs work z hand = stand (restOf qs z) (z .row) (z .carried) (z .opened) h
 abbrev pub there : ℤ → ℕ
 there x = bit (not (eqZ x far))
 
--- points that can be swept with a working array of so many numbers
+-- points that can be swept, with a working array of so many numbers
 pub record Ready (qs : List Point) (work : ℕ) : Type 0 where
   pub points : Accepted qs
   pub in-order : rising qs ≡ true

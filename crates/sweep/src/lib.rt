@@ -19,7 +19,7 @@ ghost use Rattle.rule.specs.Answers.{forwardAnswer, forwardWork, forwardOut};
 ghost use Rattle.checks.specs.Screens.{screenOf};
 ghost use Rattle.live.specs.Stands.{far, number};
 ghost use Rattle.sweep.specs.Inner.{putRect, liveSize, liveAt, putLive, zeroed, farPoint, farLive, nextPoint, nextLive, onRowOf, carriedPoint, nearer};
-ghost use Rattle.sweep.specs.Inner.{withOpened, startOf, cancelled, takenFrom, closed, newLive, endPut, endPutWork, passing, carrying, leftEnd, cutTo, cutWork};
+ghost use Rattle.sweep.specs.Inner.{withOpened, startOf, cancelled, takenFrom, newLive, endPut, endPutWork, passing, carrying, leftEnd, cutTo, cutWork};
 ghost use Rattle.sweep.specs.Inner.{endedBox, atRow, Turned, pointsAt, Ready, Underway, Advanced, Swept, inputChecks, Ordered, StandFor};
 use checks::Screen;
 use checks::order_points;

@@ -192,9 +192,9 @@ pub record Turned (p : Point) (z : Sweep) (before : List ℤ) (r : Sweep) (after
 
 -- ---- A sweep of points
 
--- the points of an array at some places
-abbrev pub pointsAt : (a : List ℤ) (order : List ℕ) → List Point
-pointsAt a order = map (pointAt (pointsOf a)) order
+-- the points that are swept: those of an array at some places
+abbrev pub sweptPoints : (a : List ℤ) (order : List ℕ) → List Point
+sweptPoints a order = map (pointAt (pointsOf a)) order
 
 -- how many live rectangles the working array has room for
 abbrev pub roomFor : List Point → ℕ
@@ -306,6 +306,6 @@ pub record Ordered (a : List ℤ) (work : ℕ) (order : List ℕ) : Type 0 where
 
 -- the points at places stand for all of an array: they can be swept, are as many, and have the same list
 pub record StandFor (a : List ℤ) (work : ℕ) (order : List ℕ) : Type 0 where
-  pub ready : Ready (pointsAt a order) work
+  pub ready : Ready (sweptPoints a order) work
   pub as-many : length order ≡ length a / 2
-  pub same-list : ruleList (pointsAt a order) ≡ ruleList (pointsOf a)
+  pub same-list : ruleList (sweptPoints a order) ≡ ruleList (pointsOf a)

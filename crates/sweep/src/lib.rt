@@ -20,7 +20,7 @@ ghost use Rattle.checks.specs.Screens.{screenOf};
 ghost use Rattle.live.specs.Stands.{far, number};
 ghost use Rattle.sweep.specs.Inner.{putRect, liveSize, liveAt, putLive, zeroed, farPoint, farLive, nextPoint, nextLive, onRowOf, carriedPoint, nearer};
 ghost use Rattle.sweep.specs.Inner.{withOpened, startOf, cancelled, takenFrom, newLive, endPut, endPutWork, passing, carrying, leftEnd, cutTo, cutWork};
-ghost use Rattle.sweep.specs.Inner.{endedBox, atRow, Turned, pointsAt, Ready, Underway, Advanced, Swept, inputChecks, Ordered, StandFor};
+ghost use Rattle.sweep.specs.Inner.{endedBox, atRow, Turned, sweptPoints, Ready, Underway, Advanced, Swept, inputChecks, Ordered, StandFor};
 use checks::Screen;
 use checks::order_points;
 use live::Live;
@@ -387,8 +387,8 @@ fn turn(work: &mut [i32], z: Sweep, p: Point) -> Sweep
 
 // The next move of a sweep of the points at these places.
 fn advance(points: &[i32], order: &[u16], work: &mut [i32], z: Sweep) -> Move
-    requires { ⌜ Underway (pointsAt (now points) (now order)) (now work) z far ⌝ }
-    ensures { λ r. ⌜ Advanced (pointsAt (now (points .entry)) (now (order .entry))) z (now (work .entry)) r (now (work .exit)) ⌝ }
+    requires { ⌜ Underway (sweptPoints (now points) (now order)) (now work) z far ⌝ }
+    ensures { λ r. ⌜ Advanced (sweptPoints (now (points .entry)) (now (order .entry))) z (now (work .entry)) r (now (work .exit)) ⌝ }
 {
     let p = next_point(points, order, z.next);
     let t = on_row(z, p);
@@ -482,9 +482,9 @@ fn sweep_all(
     rects: &mut [i32],
     writes: bool,
 ) -> ForwardAnswer
-    requires { ⌜ Ready (pointsAt (now points) (now order)) (length (now work)) ⌝ }
-    requires { ⌜ (writes ≡ true → rectSize * length (ruleList (pointsAt (now points) (now order))) ≤ length (now rects)) ⌝ }
-    ensures { λ r. ⌜ Swept (pointsAt (now (points .entry)) (now (order .entry))) writes (now (work .entry)) (now (rects .entry)) r (now (work .exit)) (now (rects .exit)) ⌝ }
+    requires { ⌜ Ready (sweptPoints (now points) (now order)) (length (now work)) ⌝ }
+    requires { ⌜ (writes ≡ true → rectSize * length (ruleList (sweptPoints (now points) (now order))) ≤ length (now rects)) ⌝ }
+    ensures { λ r. ⌜ Swept (sweptPoints (now (points .entry)) (now (order .entry))) writes (now (work .entry)) (now (rects .entry)) r (now (work .exit)) (now (rects .exit)) ⌝ }
 {
     let mut z = start(order.len() / 2);
     let mut made: usize = 0;

@@ -11,6 +11,7 @@ use lib.IntN.{ℤ, pos, predℤ, _+ℤ_}
 use lib.Signed.{leZ, ltZ}
 use borrow.Author.Tests.{not-true}
 use Rattle.plane.specs.declared.Point.{Point}
+use Rattle.plane.specs.declared.Rect.{Rect}
 use Rattle.plane.specs.Lists.{any, count, odd}
 use Rattle.plane.specs.Words.{eqZ, same, onRow, right, top, under, marks, holds}
 use Rattle.plane.proofs.Order.{order, pred-up, next-up, eqZ-is}
@@ -167,21 +168,6 @@ module _ {ps : List Point} {k l : Point} {m : ℤ} (c : Picked ps k l m) where
 
 -- ---- The step with a number
 
--- on a row between a rectangle's lower and upper side, an even number of the points before its step are left of each column over its width
-pub even-below-top : (ps : List Point) → Accepted ps → (i : ℕ) → i < length (ruleList ps) → (y : ℤ) → ltZ (rectNo ps i .y) y ≡ true → ltZ y (top (rectNo ps i)) ≡ true → (b : ℤ) → leZ (rectNo ps i .x) b ≡ true → leZ b (right (rectNo ps i)) ≡ true → odd (leftOf b y) (afterSteps ps i) ≡ false
-even-below-top ps acc i h y low high b from to =
-    let s = step-no ps acc i h in
-    let e = sides-no s in
-    even-between (s .picked) y (omega order) (omega order) b (omega order) (omega order)
-
--- on the row of its upper side that is not so
-pub odd-at-top : (ps : List Point) → Accepted ps → (i : ℕ) → i < length (ruleList ps) → ((b : ℤ) → leZ (rectNo ps i .x) b ≡ true → leZ b (right (rectNo ps i)) ≡ true → odd (leftOf b (top (rectNo ps i))) (afterSteps ps i) ≡ false) → ⊥
-odd-at-top ps acc i h even =
-    let s = step-no ps acc i h in
-    let e = sides-no s in
-    let w = right-of (s .picked) in
-    odd-stops (afterSteps ps i) (s .k .x) (s .l .x) (s .m) (s .accepted .once) (omega order) (stops-m (s .picked)) (λ b from to. subst (λ (y : ℤ). odd (leftOf b y) (afterSteps ps i) ≡ false) (e .3) (even b (omega order) (omega order)))
-
 -- what each step keeps, holds from one number up to a later one
 upward : (P : ℕ → Type 0) (i c : ℕ) → i ≤ c → P i → ((j : ℕ) → i ≤ j → j < c → P j → P (j + 1)) → P c
 upward P i zero h start next = subst P (omega arith) start
@@ -191,24 +177,44 @@ upward P i (suc c) h start next = go (ℕ-discrete i (suc c)) (λ g. upward P i 
     go (yes e) ih = subst P e start
     go (no n) ih = subst P (add-one c) (next c (omega arith) (omega arith) (ih (omega arith)))
 
--- on a row above where the steps up to number c begin, and not above the upper side of an earlier rectangle, they leave those numbers as
--- that rectangle's step did
-pub steady-over : (ps : List Point) → Accepted ps → (i c : ℕ) → i < c → c ≤ length (ruleList ps) → (y : ℤ) → leZ y (top (rectNo ps i)) ≡ true → ((j : ℕ) → j < c → ltZ (rectNo ps j .y) y ≡ true) → (b : ℤ) → leZ (rectNo ps i .x) b ≡ true → leZ b (right (rectNo ps i)) ≡ true → odd (leftOf b y) (afterSteps ps c) ≡ odd (leftOf b y) (afterSteps ps (i + 1))
-steady-over ps acc i c h few y not-above below b from to = upward Kept (i + 1) c (omega arith) start next .1
-  where
-    Kept : ℕ → Type 0
-    Kept j = (marks (afterSteps ps j) (predℤ b) (predℤ y) ≡ false) × (odd (leftOf b y) (afterSteps ps j) ≡ odd (leftOf b y) (afterSteps ps (i + 1)))
+module _ (ps : List Point) (acc : Accepted ps) (i : ℕ) where
+  -- its rectangle
+  abbrev r : Rect
+  r = rectNo ps i
 
-    start : Kept (i + 1)
-    start =
-        let s = step-no ps acc i (omega arith) in
-        let e = sides-no s in
-        let low = below i h in
-        (ap (λ (qs : List Point). marks qs (predℤ b) (predℤ y)) (s .next-is) ∙ unmarked-after (s .picked) (s .accepted) b (predℤ y) (omega order) (omega order) (omega (order, pred-up y)) (omega (order, pred-up y)), refl)
+  -- on a row between a rectangle's lower and upper side, an even number of the points before its step are left of each column over its width
+  pub even-below-top : i < length (ruleList ps) → (y : ℤ) → ltZ (r .y) y ≡ true → ltZ y (top r) ≡ true → (b : ℤ) → leZ (r .x) b ≡ true → leZ b (right r) ≡ true → odd (leftOf b y) (afterSteps ps i) ≡ false
+  even-below-top h y low high b from to =
+      let s = step-no ps acc i h in
+      let e = sides-no s in
+      even-between (s .picked) y (omega order) (omega order) b (omega order) (omega order)
 
-    next : (j : ℕ) → i + 1 ≤ j → j < c → Kept j → Kept (j + 1)
-    next j f g kept =
-        let s = step-no ps acc j (omega arith) in
-        let e = sides-no s in
-        let low = below j g in
-        (ap (λ (qs : List Point). marks qs (predℤ b) (predℤ y)) (s .next-is) ∙ unmarked-still (s .picked) (s .accepted) (predℤ b) (predℤ y) (kept .0), ap (odd (leftOf b y)) (s .next-is) ∙ row-kept (s .picked) (s .accepted) b y (omega order) (kept .0) ∙ kept .1)
+  -- on the row of its upper side that is not so
+  pub odd-at-top : i < length (ruleList ps) → ((b : ℤ) → leZ (r .x) b ≡ true → leZ b (right r) ≡ true → odd (leftOf b (top r)) (afterSteps ps i) ≡ false) → ⊥
+  odd-at-top h even =
+      let s = step-no ps acc i h in
+      let e = sides-no s in
+      let w = right-of (s .picked) in
+      odd-stops (afterSteps ps i) (s .k .x) (s .l .x) (s .m) (s .accepted .once) (omega order) (stops-m (s .picked)) (λ b from to. subst (λ (y : ℤ). odd (leftOf b y) (afterSteps ps i) ≡ false) (e .3) (even b (omega order) (omega order)))
+
+  -- on a row above where the steps up to number c begin, and not above the upper side of an earlier rectangle, they leave those numbers as
+  -- that rectangle's step did
+  pub steady-over : (c : ℕ) → i < c → c ≤ length (ruleList ps) → (y : ℤ) → leZ y (top r) ≡ true → ((j : ℕ) → j < c → ltZ (rectNo ps j .y) y ≡ true) → (b : ℤ) → leZ (r .x) b ≡ true → leZ b (right r) ≡ true → odd (leftOf b y) (afterSteps ps c) ≡ odd (leftOf b y) (afterSteps ps (i + 1))
+  steady-over c h few y not-above below b from to = upward Kept (i + 1) c (omega arith) start next .1
+    where
+      Kept : ℕ → Type 0
+      Kept j = (marks (afterSteps ps j) (predℤ b) (predℤ y) ≡ false) × (odd (leftOf b y) (afterSteps ps j) ≡ odd (leftOf b y) (afterSteps ps (i + 1)))
+
+      start : Kept (i + 1)
+      start =
+          let s = step-no ps acc i (omega arith) in
+          let e = sides-no s in
+          let low = below i h in
+          (ap (λ (qs : List Point). marks qs (predℤ b) (predℤ y)) (s .next-is) ∙ unmarked-after (s .picked) (s .accepted) b (predℤ y) (omega order) (omega order) (omega (order, pred-up y)) (omega (order, pred-up y)), refl)
+
+      next : (j : ℕ) → i + 1 ≤ j → j < c → Kept j → Kept (j + 1)
+      next j f g kept =
+          let s = step-no ps acc j (omega arith) in
+          let e = sides-no s in
+          let low = below j g in
+          (ap (λ (qs : List Point). marks qs (predℤ b) (predℤ y)) (s .next-is) ∙ unmarked-still (s .picked) (s .accepted) (predℤ b) (predℤ y) (kept .0), ap (odd (leftOf b y)) (s .next-is) ∙ row-kept (s .picked) (s .accepted) b y (omega order) (kept .0) ∙ kept .1)

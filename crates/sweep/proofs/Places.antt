@@ -21,7 +21,7 @@ use Rattle.plane.proofs.Places.{stretch-next, stretch-none, stretch-set}
 use Rattle.live.specs.declared.Live.{Live}
 use Rattle.live.specs.Stands.{far, nextOn}
 use Rattle.sweep.specs.declared.Sweep.{Sweep}
-use Rattle.sweep.specs.Inner.{liveSize, livesOf, zeroLive, liveAt, putLive, KeptPast, farPoint, farLive, nextPoint, nextLive, onRowOf, placedPoints}
+use Rattle.sweep.specs.Inner.{liveSize, livesOf, zeroLive, liveAt, putLive, KeptPast, farPoint, farLive, nextPoint, nextLive, onRowOf, sweptPoints}
 use Rattle.sweep.proofs.Lives.{length-lives, lives-put}
 use Rattle.sweep.proofs.Kept.{kept-live}
 
@@ -64,11 +64,11 @@ nextOf [] = farPoint
 nextOf (p ∷ ps) = p
 
 -- the next point is the first of those to come
-pub next-is-first : (a : List ℤ) (order : List ℕ) (i : ℕ) → nextPoint a order i ≡ nextOf (drop i (placedPoints a order))
+pub next-is-first : (a : List ℤ) (order : List ℕ) (i : ℕ) → nextPoint a order i ≡ nextOf (drop i (sweptPoints a order))
 next-is-first a order i = go (ltb i (length order)) refl
   where
     qs : List Point
-    qs = placedPoints a order
+    qs = sweptPoints a order
 
     many : length qs ≡ length order
     many = length-map order (pointAt (pointsOf a))

@@ -24,7 +24,7 @@ use Rattle.sweep.specs.declared.Sweep.{Sweep}
 use Rattle.sweep.specs.declared.Move.{Move}
 use Rattle.sweep.specs.declared.Move.the-variants.{Onward, Rectangle, Refused}
 
--- ---- Arrays
+-- ---- Rectangles in an array
 
 -- an array with four numbers put from a place on
 abbrev pub putFour : List ℤ → (from : ℕ) → (p q r s : ℤ) → List ℤ
@@ -42,7 +42,7 @@ liveSize = 4
 abbrev pub livesOf : List ℤ → List Live
 livesOf a = foursOf (λ left right row place. record { left = left; right = right; row = row; place = place }) a
 
--- zeros as one
+-- one of zeros
 abbrev pub zeroLive : Live
 zeroLive = record { left = pos 0; right = pos 0; row = pos 0; place = pos 0 }
 
@@ -53,6 +53,8 @@ liveAt a i = getD (livesOf a) i zeroLive
 -- an array with one put at place i
 abbrev pub putLive : List ℤ → ℕ → Live → List ℤ
 putLive a i k = putFour a (liveSize * i) (k .left) (k .right) (k .row) (k .place)
+
+-- ---- An array's start
 
 -- past its first n numbers an array is as it was, and as long
 pub record KeptPast (n : ℕ) (before after : List ℤ) : Type 0 where
@@ -93,7 +95,7 @@ carriedPoint z = record { x = z .carried; y = z .row }
 abbrev pub nearer : Sweep → Point → Point
 nearer z t = cond (ltZ (t .x) (z .carried)) t (carriedPoint z)
 
--- ---- Where a sweep stands, but for one thing
+-- ---- One thing changed of where the sweep stands
 
 -- after its next point
 abbrev pub afterPoint : Sweep → Sweep
@@ -191,9 +193,9 @@ pub record Turned (p : Point) (z : Sweep) (before : List ℤ) (r : Sweep) (after
 
 -- ---- A sweep of points
 
--- the points of an array at some places
-abbrev pub placedPoints : (a : List ℤ) (order : List ℕ) → List Point
-placedPoints a order = pointsAt (pointsOf a) order
+-- the points that are swept: those of an array at some places
+abbrev pub sweptPoints : (a : List ℤ) (order : List ℕ) → List Point
+sweptPoints a order = map (pointAt (pointsOf a)) order
 
 -- how many live rectangles the working array has room for
 abbrev pub roomFor : List Point → ℕ
@@ -219,7 +221,7 @@ standOf qs work z hand = stand (restOf qs z) (z .row) (z .carried) (z .opened) h
 abbrev pub there : ℤ → ℕ
 there x = bit (not (eqZ x far))
 
--- points that can be swept with a working array of so many numbers
+-- points that can be swept, with a working array of so many numbers
 pub record Ready (qs : List Point) (work : ℕ) : Type 0 where
   pub points : Accepted qs
   pub in-order : rising qs ≡ true
@@ -309,6 +311,6 @@ pub record Ordered (a : List ℤ) (work : ℕ) (order : List ℕ) : Type 0 where
 
 -- the points at places stand for all of an array: they can be swept, are as many, and have the same list
 pub record StandFor (a : List ℤ) (work : ℕ) (order : List ℕ) : Type 0 where
-  pub ready : Ready (placedPoints a order) work
+  pub ready : Ready (sweptPoints a order) work
   pub as-many : length order ≡ length a / 2
-  pub same-list : ruleList (placedPoints a order) ≡ forwardList a
+  pub same-list : ruleList (sweptPoints a order) ≡ ruleList (pointsOf a)

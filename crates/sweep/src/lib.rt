@@ -19,8 +19,8 @@ ghost use Rattle.rule.specs.Checks.{verdict};
 ghost use Rattle.checks.specs.Screens.{screenOf};
 ghost use Rattle.live.specs.Stands.{far, number};
 ghost use Rattle.sweep.specs.Inner.{putRect, liveSize, liveAt, putLive, zeroed, farPoint, farLive, nextPoint, nextLive, onRowOf, carriedPoint, nearer};
-ghost use Rattle.sweep.specs.Inner.{afterPoint, withCarried, withOpened, startOf, cancelled, takenFrom, closed, newLive, endPut, endPutWork, passing, carrying, leftEnd, cutTo, cutWork};
-ghost use Rattle.sweep.specs.Inner.{endedBox, atRow, Turned, placedPoints, Ready, Underway, Advanced, Swept, inputChecks, Ordered, StandFor, mostBegun};
+ghost use Rattle.sweep.specs.Inner.{withOpened, startOf, cancelled, takenFrom, newLive, endPut, endPutWork, passing, carrying, leftEnd, cutTo, cutWork};
+ghost use Rattle.sweep.specs.Inner.{endedBox, atRow, Turned, sweptPoints, Ready, Underway, Advanced, Swept, inputChecks, Ordered, StandFor};
 use checks::Screen;
 use checks::order_points;
 use checks::refused;
@@ -238,30 +238,17 @@ fn cancel(mut z: Sweep) -> Sweep
     z
 }
 
-fn after_point(mut z: Sweep) -> Sweep
-    requires { ⌜ z .next ≤ mostPoints ⌝ }
-    ensures { λ r. ⌜ r ≡ afterPoint z ⌝ }
-{
-    z.next += 1;
-    z
-}
-
-fn without_carried(mut z: Sweep) -> Sweep
-    ensures { λ r. ⌜ r ≡ withCarried z far ⌝ }
-{
-    z.carried = FAR;
-    z
-}
-
 // The nearer of the point and the right end carried is taken.
-fn taken(z: Sweep, t: Point) -> Sweep
-    requires { ⌜ z .next ≤ mostPoints ⌝ }
+fn taken(mut z: Sweep, t: Point) -> Sweep
+    requires { ⌜ z .next ≤ 4096 ⌝ }
     ensures { λ r. ⌜ r ≡ takenFrom z t ⌝ }
 {
     if is_before_carried(z, t) {
-        return after_point(z);
+        z.next += 1;
+    } else {
+        z.carried = FAR;
     }
-    without_carried(z)
+    z
 }
 
 // ---- Rectangles that begin
@@ -286,25 +273,18 @@ fn new_live(z: Sweep, v: Point) -> Live
     }
 }
 
-fn close_open(mut z: Sweep) -> Sweep
-    requires { ⌜ (z .given ≤ mostBegun) × (z .passed < mostPoints) ⌝ }
-    ensures { λ r. ⌜ r ≡ closed z ⌝ }
-{
-    z.passed += 1;
-    z.given += 1;
-    z.opened = FAR;
-    z
-}
-
 // An end on the row: it opens a rectangle, or closes the one that is open.
-fn put_end(work: &mut [i32], z: Sweep, v: Point) -> Sweep
-    requires { ⌜ (z .given ≤ mostBegun) × (z .passed < mostPoints) × (liveSize * (z .passed + 1) ≤ length (now work)) ⌝ }
+fn put_end(work: &mut [i32], mut z: Sweep, v: Point) -> Sweep
+    requires { ⌜ (z .given ≤ 16_777_216) × (z .passed < 4096) × (liveSize * (z .passed + 1) ≤ length (now work)) ⌝ }
     ensures { λ r. ⌜ r ≡ endPut z v ⌝ }
     ensures { λ r. ⌜ now (work .exit) ≡ endPutWork (now (work .entry)) z v ⌝ }
 {
     if is_open(z) {
         put_live(work, z.passed, new_live(z, v));
-        return close_open(z);
+        z.passed += 1;
+        z.given += 1;
+        z.opened = FAR;
+        return z;
     }
     open_at(z, v)
 }
@@ -409,8 +389,8 @@ fn turn(work: &mut [i32], z: Sweep, p: Point) -> Sweep
 
 // The next move of a sweep of the points at these places.
 fn advance(points: &[i32], order: &[u16], work: &mut [i32], z: Sweep) -> Move
-    requires { ⌜ Underway (placedPoints (now points) (now order)) (now work) z far ⌝ }
-    ensures { λ r. ⌜ Advanced (placedPoints (now (points .entry)) (now (order .entry))) z (now (work .entry)) r (now (work .exit)) ⌝ }
+    requires { ⌜ Underway (sweptPoints (now points) (now order)) (now work) z far ⌝ }
+    ensures { λ r. ⌜ Advanced (sweptPoints (now (points .entry)) (now (order .entry))) z (now (work .entry)) r (now (work .exit)) ⌝ }
 {
     let p = next_point(points, order, z.next);
     let t = on_row(z, p);
@@ -504,9 +484,9 @@ fn sweep_all(
     rects: &mut [i32],
     writes: bool,
 ) -> ForwardAnswer
-    requires { ⌜ Ready (placedPoints (now points) (now order)) (length (now work)) ⌝ }
-    requires { ⌜ (writes ≡ true → rectSize * length (ruleList (placedPoints (now points) (now order))) ≤ length (now rects)) ⌝ }
-    ensures { λ r. ⌜ Swept (placedPoints (now (points .entry)) (now (order .entry))) writes (now (work .entry)) (now (rects .entry)) r (now (work .exit)) (now (rects .exit)) ⌝ }
+    requires { ⌜ Ready (sweptPoints (now points) (now order)) (length (now work)) ⌝ }
+    requires { ⌜ (writes ≡ true → rectSize * length (ruleList (sweptPoints (now points) (now order))) ≤ length (now rects)) ⌝ }
+    ensures { λ r. ⌜ Swept (sweptPoints (now (points .entry)) (now (order .entry))) writes (now (work .entry)) (now (rects .entry)) r (now (work .exit)) (now (rects .exit)) ⌝ }
 {
     let mut z = start(order.len() / 2);
     let mut made: usize = 0;

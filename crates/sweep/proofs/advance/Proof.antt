@@ -15,7 +15,7 @@ use Rattle.plane.proofs.Bools.{or-parts, or-one}
 use Rattle.live.specs.Stands.{far, nextOn}
 use Rattle.live.specs.declared.Live.{Live}
 use Rattle.sweep.specs.declared.Sweep.{Sweep}
-use Rattle.sweep.specs.Inner.{nextLive, onRowOf, nearer, placedPoints, roomFor, restOf}
+use Rattle.sweep.specs.Inner.{nextLive, onRowOf, nearer, sweptPoints, roomFor, restOf}
 use Rattle.sweep.proofs.Places.{nextOf, next-is-first, on-row-at}
 use Rattle.sweep.proofs.Taking.{goes-cancelled}
 use Rattle.sweep.proofs.NextRow.{RowDone, turns-on, stops}
@@ -28,7 +28,7 @@ use Rattle.sweep.proofs.advance.Tie as tie
 
 -- the points that are swept
 abbrev swept : tie.Start → List Point
-swept s = placedPoints (s .args .points .now) (s .args .order .now)
+swept s = sweptPoints (s .args .points .now) (s .args .order .now)
 
 -- the next point is the first of those to come
 next-is : (c : tie.After-next-point) → let s = c .before .before in c .next-point .result ≡ nextOf (restOf (swept s) (s .args .z))

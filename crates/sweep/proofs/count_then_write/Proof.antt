@@ -12,7 +12,7 @@ use Rattle.plane.specs.Words.{pointsOf, rectSize, pointAt}
 use Rattle.plane.proofs.Bools.{clash}
 use Rattle.rule.specs.Answers.{forwardAnswer, forwardWork, forwardOut, forwardList}
 use Rattle.rule.proofs.Refusals.{accepted-with-room, forward-accepted, forward-lacks-room}
-use Rattle.sweep.specs.Inner.{KeptPast, placedPoints}
+use Rattle.sweep.specs.Inner.{KeptPast, sweptPoints}
 use Rattle.sweep.proofs.Kept.{kept-on, kept-drained}
 use Rattle.sweep.proofs.count_then_write.Statement.{statement}
 use Rattle.sweep.proofs.count_then_write.Tie as tie
@@ -32,7 +32,7 @@ many : (s : tie.Start) → length (s .args .order .now) ≡ length (points s) / 
 many s = s .pre .1 .as-many
 
 -- and so are the points that are swept
-swept : (s : tie.Start) → length (placedPoints (points s) (s .args .order .now)) ≡ length (points s) / 2
+swept : (s : tie.Start) → length (sweptPoints (points s) (s .args .order .now)) ≡ length (points s) / 2
 swept s = length-map (s .args .order .now) (pointAt (pointsOf (points s))) ∙ many s
 
 sweep-all-requires : tie.Need-sweep-all-requires
@@ -87,7 +87,7 @@ abbrev room-of : tie.After-sweep-all2 → tie.Else1
 room-of e = e .before .before .before
 
 -- both sweeps change only the start of the working array
-kept : (e : tie.After-sweep-all2) → let s = start-of (counted (room-of e)) in KeptPast (2 * length (placedPoints (points s) (s .args .order .now))) (work s) (e .sweep-all2 .last .1 .1 .0)
+kept : (e : tie.After-sweep-all2) → let s = start-of (counted (room-of e)) in KeptPast (2 * length (sweptPoints (points s) (s .args .order .now))) (work s) (e .sweep-all2 .last .1 .1 .0)
 kept e = kept-on (counted (room-of e) .sweep-all .ensures .kept) (e .sweep-all2 .ensures .kept)
 
 zero-start-requires-2 : tie.Need-zero-start-requires-2

@@ -10,11 +10,12 @@ use Rattle.sweep.proofs.put_end.Tie as tie
 
 returns : tie.Need-returns
 returns c =
-    let l = c .before .before .before .before in
+    let p = c .before .before .before in
+    let l = p .before .before in
     let s = l .before .before in
     let b = eqZ (s .before .args .z .opened) far in
     let open-one : b ≡ false = not-true b (sym (s .is-open .ensures) ∙ l .before .if1 .taken) in
-    (rw open-one (c .close-open .ensures), rw open-one (c .before .before .put-live .ensures ∙ rw (c .before .before .before .new-live .ensures)))
+    (rw open-one, rw open-one (p .put-live .ensures ∙ rw (p .before .new-live .ensures)))
 
 returns-2 : tie.Need-returns-2
 returns-2 c =
@@ -26,4 +27,4 @@ returns-2 c =
 pub put-end-spec : {M : Type 1} → statement M
 put-end-spec =
     tie.close
-    (tie.spec (λ c κs. search needs) (λ c κs. search needs) (λ c κs. search needs) (λ c κs. search needs) (λ c. search needs) returns (λ c κs. search needs) returns-2)
+    (tie.spec (λ c κs. search needs) (λ c κs. search needs) (λ c κs. search needs) (λ c. search needs) (λ c. search needs) (λ c. search needs) returns (λ c κs. search needs) returns-2)

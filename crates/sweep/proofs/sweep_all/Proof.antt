@@ -10,24 +10,24 @@ use borrow.Author.Needs.{needs}
 use Rattle.plane.specs.declared.Point.{Point}
 use Rattle.plane.specs.Words.{pointsOf, flat, areaOf, edgeOf, pointAt}
 use Rattle.rule.proofs.Area.{rule-area-most, rule-edge-fits}
-use Rattle.sweep.specs.Inner.{placedPoints, toCome, GoesOn, Gives, AllGiven}
+use Rattle.sweep.specs.Inner.{sweptPoints, toCome, GoesOn, Gives, AllGiven}
 use Rattle.sweep.proofs.Kept.{kept-on}
 use Rattle.sweep.proofs.Making.{Making, starts-making, made-fits, output-length, goes-on, given-solid, added-within, output-put, output-left, gives, all-made}
 use Rattle.sweep.proofs.sweep_all.Statement.{statement}
 use Rattle.sweep.proofs.sweep_all.Tie as tie
 
 abbrev Inv-loop : tie.InvT-loop
-Inv-loop points order work₀ rects₀ writes z₀ made₀ area₀ edge₀ work rects z made area edge = Making (placedPoints points order) writes work₀ rects₀ work rects z made area edge
+Inv-loop points order work₀ rects₀ writes z₀ made₀ area₀ edge₀ work rects z made area edge = Making (sweptPoints points order) writes work₀ rects₀ work rects z made area edge
 
 abbrev μ-loop : tie.MeasureT-loop
-μ-loop points order work₀ rects₀ writes z₀ made₀ area₀ edge₀ work rects z made area edge = toCome (placedPoints points order) z
+μ-loop points order work₀ rects₀ writes z₀ made₀ area₀ edge₀ work rects z made area edge = toCome (sweptPoints points order) z
 
 -- of a move: where the loop is, the points that are swept, and what it leaves of the working array
 abbrev loop-of : tie.After-advance Inv-loop μ-loop → tie.At-loop Inv-loop μ-loop
 loop-of d = d .before .before
 
 abbrev swept : tie.After-advance Inv-loop μ-loop → List Point
-swept d = let s = loop-of d .before .before .before .args in placedPoints (s .points .now) (s .order .now)
+swept d = let s = loop-of d .before .before .before .args in sweptPoints (s .points .now) (s .order .now)
 
 abbrev work-after : tie.After-advance Inv-loop μ-loop → List ℤ
 work-after d = d .advance .last .1 .1 .0

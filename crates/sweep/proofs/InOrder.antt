@@ -10,11 +10,11 @@ use Rattle.plane.specs.declared.Point.{Point}
 use Rattle.plane.specs.Words.{onRow, inColumn, pointsOf, inOrder}
 use Rattle.plane.proofs.Arrays.{length-points}
 use Rattle.plane.proofs.Rising.{rising-once, inOrder-rising, inOrder-of, inOrder-odd, inOrder-length}
+use Rattle.ordering.specs.Orders.{rowOrder}
+use Rattle.ordering.proofs.Orders.{order-length, row-order-points}
 use Rattle.rule.specs.Rows.{Accepted}
 use Rattle.rule.specs.Answers.{ForwardAccepted}
 use Rattle.rule.proofs.Canon.{alike-list}
-use Rattle.checks.specs.Screens.{rowOrder}
-use Rattle.checks.proofs.Orders.{order-points-in-order}
 use Rattle.sweep.specs.Inner.{sweptPoints, StandFor}
 
 -- the row order has as many places as there are points
@@ -34,7 +34,7 @@ in-order-accepted {ps} acc = record {
 pub order-stands : {a : List ℤ} {work out : ℕ} {order : List ℕ} → ForwardAccepted a work out → order ≡ rowOrder (pointsOf a) → StandFor a work order
 order-stands {a} {work} {out} {order} acc e =
     let ps : List Point = pointsOf a in
-    let at : sweptPoints a order ≡ inOrder ps = rw e (order-points-in-order (acc .points) .0) in
+    let at : sweptPoints a order ≡ inOrder ps = rw e (row-order-points ps (acc .points .once)) in
     let many : length (inOrder ps) ≡ length a / 2 = inOrder-length ps (acc .points .once) ∙ length-points a in
     let ordered = in-order-accepted (acc .points) in
     record {

@@ -14,7 +14,7 @@ use Rattle.plane.specs.Lists.{bit, sum, sumBelow}
 use Rattle.plane.specs.Words.{eqZ, pointsOf, rectSize, foursOf, flatRects, rising, pointAt, mostPoints}
 use Rattle.rule.specs.declared.ForwardAnswer.{ForwardAnswer}
 use Rattle.rule.specs.Rule.{ruleList}
-use Rattle.rule.specs.Answers.{forwardSays, written, forwardList, sumsOf}
+use Rattle.rule.specs.Answers.{forwardSays, written, sumsOf}
 use Rattle.ordering.specs.Orders.{rowOrder, pointsAt}
 use Rattle.rule.specs.Checks.{Check, accepted, verdict}
 use Rattle.rule.specs.Rows.{LENGTH, MANY, WORK, pointChecks, Accepted}
@@ -195,7 +195,7 @@ pub record Turned (p : Point) (z : Sweep) (before : List ℤ) (r : Sweep) (after
 
 -- the points that are swept: those of an array at some places
 abbrev pub sweptPoints : (a : List ℤ) (order : List ℕ) → List Point
-sweptPoints a order = map (pointAt (pointsOf a)) order
+sweptPoints a order = pointsAt (pointsOf a) order
 
 -- how many live rectangles the working array has room for
 abbrev pub roomFor : List Point → ℕ

@@ -18,7 +18,9 @@ use Rattle.plane.proofs.Arrays.{length-points, points-rest, points-append, flat
 use Rattle.rule.specs.declared.StepAnswer.the-variants.{Rectangle, Refused}
 use Rattle.rule.specs.Rule.{Taken, step}
 use Rattle.rule.specs.Back.{backList}
-use Rattle.rule.specs.Answers.{written, Starts, workOf, forwardSays, forwardAnswer, forwardOut, drained, forwardWork, backwardSays, backwardAnswer, backwardOut, stepSays, stepAnswer, stepLeaves, stepWork, stepNumber, stepPlace, stepValues, forwardChecks, backwardChecks, stepChecks, StepAccepted, forwardList, forwardSums}
+use Rattle.rule.specs.Answers.{written, Starts, workOf, forwardSays, forwardAnswer, forwardOut, drained, forwardWork, forwardChecks, forwardList, forwardSums}
+use Rattle.rule.specs.Answers.{backwardSays, backwardAnswer, backwardOut, backwardChecks}
+use Rattle.rule.specs.Answers.{stepSays, stepAnswer, stepLeaves, stepWork, stepNumber, stepPlace, stepValues, stepChecks, StepAccepted}
 use Rattle.rule.specs.Checks.{rowNumber, placeGiven, Verdict, accepted, refused, verdict}
 use Rattle.rule.proofs.Verdicts.{numberIn, placeIn}
 use Rattle.rule.proofs.Refusals.{forward-says, backward-says, step-says, forward-accepts-exactly, forward-accepted, forward-lacks-room, forward-needs, backward-accepts-exactly, backward-accepted, step-accepts-exactly, step-accepted}

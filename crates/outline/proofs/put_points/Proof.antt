@@ -11,12 +11,11 @@ use lib.IntN.{ℤ}
 use borrow.Author.Needs.{needs}
 use Rattle.plane.specs.declared.Point.{Point}
 use Rattle.plane.specs.Words.{flatPoints}
-use Rattle.plane.proofs.Arrays.{flat-append, length-flat-points}
 use Rattle.plane.proofs.Places.{in-at}
 use Rattle.plane.proofs.Bits.{back}
 use Rattle.rule.specs.Answers.{written}
 use Rattle.rule.specs.Checks.{accepted}
-use Rattle.rule.proofs.Memory.{written-more}
+use Rattle.rule.proofs.Memory.{written-point}
 use Rattle.outline.specs.Inner.{pointOf, pointsAt, isKey, AreKeys}
 use Rattle.outline.proofs.put_points.Statement.{statement}
 use Rattle.outline.proofs.put_points.Tie as tie
@@ -41,11 +40,9 @@ next-first (k ∷ ks) (suc i) h = ap (λ (l : List Point). pointOf k ∷ l) (nex
 
 -- the next point put after those written is one more written
 put-next : (ks : List ℕ) (i : ℕ) (out : List ℤ) {p : Point} → i < length ks → 2 * i + 1 < length out → p ≡ pointOf (getD ks i 0) → set (set (written accepted (flatPoints (pointsAt (take i ks))) out) (2 * i) (p .x)) (2 * i + 1) (p .y) ≡ written accepted (flatPoints (pointsAt (take (i + 1) ks))) out
-unfolding flatPoints
 put-next ks i out {p} h room e =
-    let ps : List Point = pointsAt (take i ks) in
-    let d : 2 * i ≡ length (flatPoints ps) = omega (arith, length-flat-points ps, length-first ks i (omega arith)) in
-    rw (add-one, add-one, next-first ks i h, ← e, flat-append ps (p ∷ []), d) (written-more (flatPoints ps) (p .x ∷ p .y ∷ []) out (omega arith))
+    let next : pointsAt (take (i + 1) ks) ≡ pointsAt (take i ks) ++ (p ∷ []) = rw (add-one, e) (next-first ks i h) in
+    rw next (written-point (pointsAt (take i ks)) p out i (length-first ks i (omega arith)) room)
 
 abbrev Inv-loop : tie.InvT-loop
 Inv-loop keys n points₀ i₀ points i = (i ≤ n) × (length points ≡ length points₀) × (points ≡ written accepted (flatPoints (pointsAt (take i keys))) points₀)

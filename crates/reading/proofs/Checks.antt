@@ -37,12 +37,13 @@ pub all-good : (o : Option ℕ) (n : ℕ) {m : ℕ} → linesSay o n ≡ AllGood
 all-good none n e = (refl, cc)
 all-good (some j) n e = let z : _≡_ {A = ℕ} 0 1 = cc in absurd (omega arith)
 
--- a refusal leaves the output as it was
-pub refused-done : {t : List ℕ} {out : List ℤ} {r : ReadAnswer} {k p : ℕ} → r ≡ record { answer = k; place = p; count = 0 } → verdict (readChecks t (length out)) ≡ refused k p → ReadDone t out r out
-unfolding readAnswer readOut
-refused-done e v = record { answer = rw v e; output = rw v }
+module _ {t : List ℕ} {out : List ℤ} {r : ReadAnswer} where
+  -- a refusal leaves the output as it was
+  pub refused-done : {k p : ℕ} → r ≡ record { answer = k; place = p; count = 0 } → verdict (readChecks t (length out)) ≡ refused k p → ReadDone t out r out
+  unfolding readAnswer readOut
+  refused-done e v = record { answer = rw v e; output = rw v }
 
--- lines that are accepted are answered by their points
-pub accepted-done : {t : List ℕ} {out out-after : List ℤ} {r : ReadAnswer} {n : ℕ} → r ≡ record { answer = 0; place = 0; count = n } → length (pointsRead t) ≡ n → out-after ≡ written accepted (flatPoints (pointsRead t)) out → verdict (readChecks t (length out)) ≡ accepted → ReadDone t out r out-after
-unfolding readAnswer readOut
-accepted-done e l w v = record { answer = rw (v, l) e; output = rw v w }
+  -- lines that are accepted are answered by their points
+  pub accepted-done : {after : List ℤ} {n : ℕ} → r ≡ record { answer = 0; place = 0; count = n } → length (pointsRead t) ≡ n → after ≡ written accepted (flatPoints (pointsRead t)) out → verdict (readChecks t (length out)) ≡ accepted → ReadDone t out r after
+  unfolding readAnswer readOut
+  accepted-done e l w v = record { answer = rw (v, l) e; output = rw v w }

@@ -74,7 +74,10 @@ unfolding linesOf beforeFirst afterFirst
 first-line [] h = absurd (omega arith)
 first-line (b ∷ bs) h = go bs (first-line bs) (eqb b newline)
   where
-    go : (bs : List ℕ) → (0 < length bs → linesOf bs ≡ firstLine bs ∷ linesOf (afterFirst newline bs)) → (u : Bool) → let front = cond u [] (b ∷ beforeFirst newline bs) in cond u (record { bytes = []; ended = true } ∷ linesOf bs) (onto b (linesOf bs)) ≡ record { bytes = front; ended = ltb (length front) (suc (length bs)) } ∷ linesOf (cond u bs (afterFirst newline bs))
+    go :
+        (bs : List ℕ) → (0 < length bs → linesOf bs ≡ firstLine bs ∷ linesOf (afterFirst newline bs)) → (u : Bool) →
+        let front = cond u [] (b ∷ beforeFirst newline bs) in
+        cond u (record { bytes = []; ended = true } ∷ linesOf bs) (onto b (linesOf bs)) ≡ record { bytes = front; ended = ltb (length front) (suc (length bs)) } ∷ linesOf (cond u bs (afterFirst newline bs))
     go bs ih true = rw (lt-ltb 0 (suc (length bs)) (omega arith))
     go [] ih false = refl
     go (a ∷ bs) ih false = rw (ih (omega arith)) (simp leb·suc-suc)

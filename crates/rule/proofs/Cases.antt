@@ -12,5 +12,8 @@ use Rattle.rule.specs.Checks.{rowNumber, firstFrom, placeGiven, verdict}
 use Rattle.rule.specs.Rows.{pointChecks}
 
 pub cases-hold : map (λ line. gives (line .asked)) cases ≡ map (λ line. line .says) cases
-unfolding xor any odd only sum eqZ inRange pointsOf flatPoints pointInRange same onRow inColumn before insert inOrder foursOf rectsOf flatRects rectInRange flat cornersOf areaOf edgeOf firstOf pickK rightOf pickL over leftOf stops stopper pickM rectOf placeOf remove add toggle toggleFour takeRect step run ruleList isCorner corners oddCorner backList rowNumber pointChecks forwardChecks backwardChecks stepChecks firstFrom placeGiven verdict workOf forwardAnswer forwardOut forwardWork backwardAnswer backwardOut stepAnswer stepWork paperM paperStep paperList gives cases
+unfolding xor any odd only sum eqZ inRange pointsOf flatPoints pointInRange same onRow inColumn before insert inOrder foursOf rectsOf flatRects rectInRange flat cornersOf areaOf edgeOf
+    firstOf pickK rightOf pickL over leftOf stops stopper pickM rectOf placeOf remove add toggle toggleFour takeRect step run ruleList
+    isCorner corners oddCorner backList rowNumber pointChecks forwardChecks backwardChecks stepChecks firstFrom placeGiven verdict
+    workOf forwardAnswer forwardOut forwardWork backwardAnswer backwardOut stepAnswer stepWork paperM paperStep paperList gives cases
 cases-hold = refl

@@ -72,7 +72,10 @@ list-accepted ps acc out few room =
     backward-accepted (flatRects rs) out .1 (record { even = omega arith; few = omega arith; rects = rw (rects-flat rs) (rule-rects ps acc); room = rw (list-back ps acc) (omega (arith, inOrder-length ps (acc .once))) })
 
 -- where the list has at most 16,384 rectangles and there is room, it gives the input's points in order of y, then x
-pub forward-then-backward : (a : List ℤ) (work out : ℕ) (points : List ℤ) → forwardAnswer a work out .answer ≡ 0 → length (forwardList a) ≤ mostRects → length a ≤ length points → let list = flatRects (forwardList a) in (backwardAnswer list (length points) ≡ record { answer = 0; place = 0; count = length a / 2 }) × (backwardOut list points ≡ flatPoints (inOrder (pointsOf a)) ++ drop (length a) points)
+pub forward-then-backward :
+    (a : List ℤ) (work out : ℕ) (points : List ℤ) → forwardAnswer a work out .answer ≡ 0 → length (forwardList a) ≤ mostRects → length a ≤ length points →
+    let list = flatRects (forwardList a) in
+    (backwardAnswer list (length points) ≡ record { answer = 0; place = 0; count = length a / 2 }) × (backwardOut list points ≡ flatPoints (inOrder (pointsOf a)) ++ drop (length a) points)
 unfolding backwardAnswer backwardOut
 forward-then-backward a work out points done few room =
     let ps = pointsOf a in

@@ -5,8 +5,9 @@ use mathlib.Core.Logic.{_≢_, _⊎_, inl, inr}
 use Prim.Native.Nat.{ℕ, suc, _+_, _-_, _*_, _/_, _≤_, _<_}
 use native.Mathlib.Omega.{arith}
 use native.Mathlib.Nat.{sub-zero}
+use native.Mathlib.Numerals.{add-one}
 use mathlib.Core.List.{List, [], _∷_, _++_, append-nil, append-assoc}
-use lib.ListN.{length, take, drop, replicate, length-append, length-take, length-drop, length-replicate, replicate-append-replicate}
+use lib.ListN.{length, take, drop, set, replicate, length-append, length-take, length-drop, length-replicate, replicate-append-replicate}
 use lib.Seq.{take-length, drop-length, take-append-seam, drop-append-seam, drop-append-add, take-at, drop-at, drop-drop, sets, sets-eq}
 use lib.IntN.{ℤ, pos}
 use lib.Dec.{eqb}
@@ -18,7 +19,9 @@ use Rattle.plane.proofs.Arrays.{length-points, points-rest, points-append, flat
 use Rattle.rule.specs.declared.StepAnswer.the-variants.{Rectangle, Refused}
 use Rattle.rule.specs.Rule.{Taken, step}
 use Rattle.rule.specs.Back.{backList}
-use Rattle.rule.specs.Answers.{written, Starts, workOf, forwardSays, forwardAnswer, forwardOut, drained, forwardWork, backwardSays, backwardAnswer, backwardOut, stepSays, stepAnswer, stepLeaves, stepWork, stepNumber, stepPlace, stepValues, forwardChecks, backwardChecks, stepChecks, StepAccepted, forwardList, forwardSums}
+use Rattle.rule.specs.Answers.{written, Starts, workOf, forwardSays, forwardAnswer, forwardOut, drained, forwardWork, forwardChecks, forwardList, forwardSums}
+use Rattle.rule.specs.Answers.{backwardSays, backwardAnswer, backwardOut, backwardChecks}
+use Rattle.rule.specs.Answers.{stepSays, stepAnswer, stepLeaves, stepWork, stepNumber, stepPlace, stepValues, stepChecks, StepAccepted}
 use Rattle.rule.specs.Checks.{rowNumber, placeGiven, Verdict, accepted, refused, verdict}
 use Rattle.rule.proofs.Verdicts.{numberIn, placeIn}
 use Rattle.rule.proofs.Refusals.{forward-says, backward-says, step-says, forward-accepts-exactly, forward-accepted, forward-lacks-room, forward-needs, backward-accepts-exactly, backward-accepted, step-accepts-exactly, step-accepted}
@@ -52,6 +55,13 @@ written-part result more out i e =
     let rest : List ℤ = drop (length result) out in
     let n : length (result ++ rest) - i ≡ length rest = omega (arith, length-append result rest) in
     rw (n, take-at result rest i e, drop-at result rest i e, take-length rest, drop-length rest, append-nil (more ++ drop (length more) rest), drop-drop (length more) (length result) out, length-append result more, append-assoc)
+
+-- a point stored after those written is one more written
+pub written-point : (ps : List Point) (p : Point) (out : List ℤ) (i : ℕ) → length ps ≡ i → 2 * i + 1 < length out → set (set (written accepted (flatPoints ps) out) (2 * i) (p .x)) (2 * i + 1) (p .y) ≡ written accepted (flatPoints (ps ++ (p ∷ []))) out
+unfolding flatPoints
+written-point ps p out i e room =
+    let d : 2 * i ≡ length (flatPoints ps) = omega (arith, length-flat-points ps) in
+    rw (add-one, flat-append ps (p ∷ []), d) (written-more (flatPoints ps) (p .x ∷ p .y ∷ []) out (omega arith))
 
 -- ---- A working array
 

@@ -105,7 +105,10 @@ step-accepts-exactly work n = rw (step-says work n .0) (answer-accepts (stepChec
 
 points-clear : (ps : List Point) → AllClear (pointChecks ps) ↔ Accepted ps
 unfolding pointChecks
-points-clear ps = (λ h. record { range = range-at .0 (h .0); once = once-exactly ps .0 (h .1 .0); rows = rows-even ps .0 (h .1 .1 .0); columns = columns-even ps .0 (h .1 .1 .1 .0) }, λ c. (range-at .1 (c .range), (once-exactly ps .1 (c .once), (rows-even ps .1 (c .rows), (columns-even ps .1 (c .columns), tt)))))
+points-clear ps = (
+  λ h. record { range = range-at .0 (h .0); once = once-exactly ps .0 (h .1 .0); rows = rows-even ps .0 (h .1 .1 .0); columns = columns-even ps .0 (h .1 .1 .1 .0) },
+  λ c. (range-at .1 (c .range), (once-exactly ps .1 (c .once), (rows-even ps .1 (c .rows), (columns-even ps .1 (c .columns), tt)))),
+)
   where
     range-at : Clear (RANGE ps) ↔ ((q : Point) → In q ps → pointInRange q ≡ true)
     range-at = all-pass pointInRange ps origin

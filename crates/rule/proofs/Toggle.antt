@@ -156,7 +156,10 @@ sum-four ps k l m k-in l-in d w =
     omega (arith, toggle-taken ps k k-in w, toggle-taken (toggle ps k) l (still-there ps k l k-in l-in d) w, toggle-most (toggle (toggle ps k) l) km w, toggle-most (toggle (toggle (toggle ps k) l) km) lm w)
 
 -- where K and L are two points of the list: after none of the toggles of K, L and two more points are they more than before
-pub four-lengths : (ps : List Point) (k l p q : Point) → 1 ≤ count (same k) ps → 1 ≤ count (same l) ps → same l k ≡ false → (length (toggle ps k) ≤ length ps) × (length (toggle (toggle ps k) l) ≤ length ps) × (length (toggle (toggle (toggle ps k) l) p) ≤ length ps) × (length (toggle (toggle (toggle (toggle ps k) l) p) q) ≤ length ps)
+pub four-lengths :
+    (ps : List Point) (k l p q : Point) → 1 ≤ count (same k) ps → 1 ≤ count (same l) ps → same l k ≡ false →
+    let qs = toggle (toggle ps k) l in
+    (length (toggle ps k) ≤ length ps) × (length qs ≤ length ps) × (length (toggle qs p) ≤ length ps) × (length (toggle (toggle qs p) q) ≤ length ps)
 four-lengths ps k l p q k-in l-in d =
     let ps₁ : List Point = toggle ps k in
     let ps₂ : List Point = toggle ps₁ l in

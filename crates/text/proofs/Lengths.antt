@@ -54,4 +54,7 @@ pub sentence-length : (r : Report) → ReportFits r → length (sentence r) ≤ 
 unfolding sentence
 sentence-length r f =
     let P : List ℕ → Type 0 = λ l. length l ≤ 200 in
-    cond-case P (eqb (r .answer) 2) (λ _. many-length (r .read)) (λ _. cond-case P (namesOne (r .answer)) (λ _. point-length (r .place) (r .point) (r .answer) (f .place) (f .x-small) (f .y-small)) (λ _. cond-case P (eqb (r .answer) 8) (λ _. room-length (r .place) (f .place)) (λ _. cond-case P (eqb (r .answer) 11) (λ _. text-length (r .place) (f .place)) (λ _. omega arith))))
+    cond-case P (eqb (r .answer) 2) (λ _. many-length (r .read)) λ _.
+    cond-case P (namesOne (r .answer)) (λ _. point-length (r .place) (r .point) (r .answer) (f .place) (f .x-small) (f .y-small)) λ _.
+    cond-case P (eqb (r .answer) 8) (λ _. room-length (r .place) (f .place)) λ _.
+    cond-case P (eqb (r .answer) 11) (λ _. text-length (r .place) (f .place)) (λ _. omega arith)

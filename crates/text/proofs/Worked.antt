@@ -21,5 +21,9 @@ empty-prints = refl
 
 -- case B
 pub case-b-prints : programPrints (ascii "0 0\n4 0\n4 1\n8 1\n8 3\n4 3\n4 5\n1 5\n1 3\n0 3\n") ≡ ascii "rects 3 area 26 edge 36\n0 0 4 3\n4 1 4 2\n1 3 3 2\n"
-unfolding xor any odd sum eqZ inRange pointsOf flatPoints pointInRange same onRow inColumn before areaOf edgeOf firstOf pickK rightOf pickL over leftOf stops stopper pickM rectOf placeOf remove add toggle toggleFour takeRect step run ruleList rowOf pointChecks forwardChecks firstFrom placeGiven verdict isDigit areDigits oneToTen valueAfter valueOf numberOf digitsOf decimal signed upTo afterFirst linesOf linePoint isBad pointsIn textChecks programChecks sumsLine rectLine rectLines listLines programPrints
+unfolding xor any odd sum eqZ inRange pointsOf flatPoints pointInRange same onRow inColumn before areaOf edgeOf
+    firstOf pickK rightOf pickL over leftOf stops stopper pickM rectOf placeOf remove add toggle toggleFour takeRect step run ruleList
+    rowOf pointChecks forwardChecks firstFrom placeGiven verdict
+    isDigit areDigits oneToTen valueAfter valueOf numberOf digitsOf decimal signed
+    upTo afterFirst linesOf linePoint isBad pointsIn textChecks programChecks sumsLine rectLine rectLines listLines programPrints
 case-b-prints = refl

@@ -10,11 +10,10 @@ use borrow.Author.Needs.{needs}
 use Rattle.plane.specs.declared.Point.{Point}
 use Rattle.plane.specs.Words.{flatPoints}
 use Rattle.plane.specs.Keys.{pointOf}
-use Rattle.plane.proofs.Arrays.{flat-append, length-flat-points}
 use Rattle.plane.proofs.Bits.{back}
 use Rattle.rule.specs.Answers.{written}
 use Rattle.rule.specs.Checks.{accepted}
-use Rattle.rule.proofs.Memory.{written-more}
+use Rattle.rule.proofs.Memory.{written-point}
 use Rattle.outline.specs.Inner.{pointsOfKeys}
 use Rattle.outline.proofs.put_points.Statement.{statement}
 use Rattle.outline.proofs.put_points.Tie as tie
@@ -35,11 +34,9 @@ next-first (k ∷ ks) (suc i) h = ap (λ (l : List Point). pointOf k ∷ l) (nex
 
 -- the next point put after those written is one more written
 put-next : (ks : List ℕ) (i : ℕ) (out : List ℤ) {p : Point} → i < length ks → 2 * i + 1 < length out → p ≡ pointOf (getD ks i 0) → set (set (written accepted (flatPoints (pointsOfKeys (take i ks))) out) (2 * i) (p .x)) (2 * i + 1) (p .y) ≡ written accepted (flatPoints (pointsOfKeys (take (i + 1) ks))) out
-unfolding flatPoints
 put-next ks i out {p} h room e =
-    let ps : List Point = pointsOfKeys (take i ks) in
-    let d : 2 * i ≡ length (flatPoints ps) = omega (arith, length-flat-points ps, length-first ks i (omega arith)) in
-    rw (add-one, add-one, next-first ks i h, ← e, flat-append ps (p ∷ []), d) (written-more (flatPoints ps) (p .x ∷ p .y ∷ []) out (omega arith))
+    let next : pointsOfKeys (take (i + 1) ks) ≡ pointsOfKeys (take i ks) ++ (p ∷ []) = rw (add-one, e) (next-first ks i h) in
+    rw next (written-point (pointsOfKeys (take i ks)) p out i (length-first ks i (omega arith)) room)
 
 abbrev Inv-loop : tie.InvT-loop
 Inv-loop keys n points₀ i₀ points i = (i ≤ n) × (length points ≡ length points₀) × (points ≡ written accepted (flatPoints (pointsOfKeys (take i keys))) points₀)

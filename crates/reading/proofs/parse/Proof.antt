@@ -28,7 +28,10 @@ number-in none = refl
 number-in (some z) = refl
 
 -- what is made of the numbers before and after the gap
-joined : (t : List ℕ) (gap : ℕ) {x y : Numeral} {r : Parsed} → gap ≡ length (beforeFirst space t) → x ≡ numeral (numberOf (take gap t)) → y ≡ numeral (numberOf (take (length t - (gap + 1)) (drop (gap + 1) t))) → r ≡ parsed (pointFrom (numberIn x) (numberIn y)) → r ≡ parsed (pointFrom (numberOf (beforeFirst space t)) (numberOf (afterFirst space t)))
+joined :
+    (t : List ℕ) (gap : ℕ) {x y : Numeral} {r : Parsed} → gap ≡ length (beforeFirst space t) →
+    x ≡ numeral (numberOf (take gap t)) → y ≡ numeral (numberOf (take (length t - (gap + 1)) (drop (gap + 1) t))) →
+    r ≡ parsed (pointFrom (numberIn x) (numberIn y)) → r ≡ parsed (pointFrom (numberOf (beforeFirst space t)) (numberOf (afterFirst space t)))
 joined t gap e f g h = rw (h, f, g, number-in (numberOf (take gap t)), number-in, part-rest, e, take-before, add-one, drop-before)
 
 returns : tie.Need-returns

@@ -53,24 +53,31 @@ module _ (t : List ℕ) (at end : ℕ) (h : at < length t) (e : end ≡ length (
     bad : r ≡ None → Unread ≡ lineFrom t at
     bad g = rw read-first (says-none (linePoint (firstLine (drop at t))) (nextLine t at) (sym point-first ∙ g))
 
+-- the places before: the start, and where the newline is found
+abbrev start : tie.After-find → tie.Start
+start f = f .before .before .before
+
+abbrev found : tie.After-parse → tie.After-find
+found p = p .before .before .before
+
 returns : tie.Need-returns
 returns c =
     let f = c .before in
-    let s = f .before .before .before in
+    let s = start f in
     unended (s .args .text .now) (s .args .at) (f .find .result) (s .pre) (f .find .ensures .0) (omega arith)
 
 returns-2 : tie.Need-returns-2
 returns-2 c =
     let p = c .before .before .before in
-    let f = p .before .before .before in
-    let s = f .before .before .before in
+    let f = found p in
+    let s = start f in
     good (s .args .text .now) (s .args .at) (f .find .result) (s .pre) (f .find .ensures .0) (omega arith) (p .parse .ensures) (c .before .point .given .1)
 
 returns-3 : tie.Need-returns-3
 returns-3 c =
     let p = c .before .before in
-    let f = p .before .before .before in
-    let s = f .before .before .before in
+    let f = found p in
+    let s = start f in
     bad (s .args .text .now) (s .args .at) (f .find .result) (s .pre) (f .find .ensures .0) (omega arith) (p .parse .ensures) (c .enum-told .given .1)
 
 pub read-line-spec : {M : Type 1} → statement M
@@ -86,7 +93,7 @@ read-line-spec =
     (λ c κs. search needs)
     (λ c. search needs)
     (λ c. search needs)
-    (λ c. omega (arith, length-drop (c .before .before .before .before .before .before .before .before .before .args .at) (c .before .before .before .before .before .before .before .before .before .args .text .now)))
+    (λ c. let s = start (found (c .before .before .before)) in omega (arith, length-drop (s .args .at) (s .args .text .now)))
     (λ c. search needs)
     returns-2
     returns-3)

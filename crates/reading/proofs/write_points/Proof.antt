@@ -1,34 +1,24 @@
 -- `reading::write_points` meets its contract. The invariant: it is at a line's place, and the points of the lines before are written.
-use Prim.Native.Nat.{ℕ, _+_, _*_, _-_, _<_}
-use native.Mathlib.Numerals.{add-one}
+use Prim.Native.Nat.{_+_, _*_, _-_, _<_}
 use native.Mathlib.Omega.{arith}
 use mathlib.Core.Path.{_≡_, refl, sym, _∙_}
-use mathlib.Core.List.{List, [], _∷_, _++_}
-use lib.ListN.{length, take, set, length-append, length-set}
+use mathlib.Core.List.{List, [], _∷_}
+use lib.ListN.{length, take, length-append, length-set}
 use lib.Seq.{take-length}
-use lib.IntN.{ℤ}
 use borrow.Author.Needs.{needs}
 use Rattle.plane.specs.declared.Point.{Point}
 use Rattle.plane.specs.Words.{flatPoints}
-use Rattle.plane.proofs.Arrays.{flat-append, length-flat-points}
 use Rattle.plane.proofs.Bits.{back}
 use Rattle.plane.proofs.Bools.{clash}
 use Rattle.rule.specs.Answers.{written}
 use Rattle.rule.specs.Checks.{accepted}
-use Rattle.rule.proofs.Memory.{written-more}
+use Rattle.rule.proofs.Memory.{written-point}
 use Rattle.rule.proofs.Verdicts.{place-clear}
 use Rattle.reading.specs.Lines.{linesOf, pointsIn}
 use Rattle.reading.specs.Inner.{linesCheck}
 use Rattle.reading.proofs.Lines.{Reached, Passed, reached-start, reached-bad, reached-next, reached-end, points-next}
 use Rattle.reading.proofs.write_points.Statement.{statement}
 use Rattle.reading.proofs.write_points.Tie as tie
-
--- a point put after those written is one more written
-put-next : (ps : List Point) (p : Point) (out : List ℤ) (i : ℕ) → length ps ≡ i → 2 * i + 1 < length out → set (set (written accepted (flatPoints ps) out) (2 * i) (p .x)) (2 * i + 1) (p .y) ≡ written accepted (flatPoints (ps ++ (p ∷ []))) out
-unfolding flatPoints
-put-next ps p out i e room =
-    let d : 2 * i ≡ length (flatPoints ps) = omega (arith, length-flat-points ps) in
-    rw (add-one, flat-append ps (p ∷ []), d) (written-more (flatPoints ps) (p .x ∷ p .y ∷ []) out (omega arith))
 
 abbrev Inv-loop : tie.InvT-loop
 Inv-loop text points₀ at₀ i₀ points at i =
@@ -74,7 +64,7 @@ loop-again c =
       g .reached,
       rw e (omega (arith, length-append ps (n .0 ∷ []))),
       simp length-set (l .loop .inv .2),
-      rw (e, back (n .0 .x) (omega arith), back (n .0 .y) (omega arith), l .loop .inv .3) (put-next ps (n .0) (s .args .points .now) (l .loop .i) (l .loop .inv .1) (omega (arith, room c))),
+      rw (e, back (n .0 .x) (omega arith), back (n .0 .y) (omega arith), l .loop .inv .3) (written-point ps (n .0) (s .args .points .now) (l .loop .i) (l .loop .inv .1) (omega (arith, room c))),
     )
 
 returns-2 : tie.Need-returns-2 Inv-loop μ-loop

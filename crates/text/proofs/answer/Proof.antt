@@ -1,6 +1,8 @@
 -- `text::answer` meets its contract: the points of a text that is accepted go to `list`, and anything else is refused.
+use Prim.Native.Nat.{ℕ}
 use native.Mathlib.Omega.{arith}
 use mathlib.Core.Path.{_≡_, sym}
+use mathlib.Core.List.{List}
 use lib.ListN.{replicate, length-replicate}
 use lib.Seq.{length-take-le}
 use lib.IntN.{pos}
@@ -12,19 +14,24 @@ use Rattle.text.proofs.Listing.{program-listed, program-told}
 use Rattle.text.proofs.answer.Statement.{statement}
 use Rattle.text.proofs.answer.Tie as tie
 
+-- the input, and where it is read
+abbrev input : tie.After-read-points → List ℕ
+input r = r .before .before .before .before .args .input .now
+
+abbrev reader : tie.After-struct-known → tie.After-read-points
+reader c = c .before .before
+
 -- the reader is lent room for 4,096 points
-read : (c : tie.After-read-points) → ReadDone (c .before .before .before .before .args .input .now) (replicate 8192 (pos 0)) (c .read-points .result) (c .read-points .last .1 .0)
+read : (c : tie.After-read-points) → ReadDone (input c) (replicate 8192 (pos 0)) (c .read-points .result) (c .read-points .last .1 .0)
 read c = c .read-points .ensures
 
 -- what is known of a text that it accepts
-all-read : (c : tie.Then1) → let r = c .before .before .before in AllRead (r .before .before .before .before .args .input .now) (r .read-points .result) (r .read-points .last .1 .0)
-all-read c = read-done (read (c .before .before .before)) (c .if1 .taken)
+all-read : (c : tie.Then1) → let r = reader (c .before) in AllRead (input r) (r .read-points .result) (r .read-points .last .1 .0)
+all-read c = read-done (read (reader (c .before))) (c .if1 .taken)
 
 -- and of one that it refuses
-refuses : (c : tie.Else1) → let r = c .before .before .before in verdict (textChecks (r .before .before .before .before .args .input .now)) ≡ refused (r .read-points .result .answer) (r .read-points .result .place)
-refuses c =
-    let r = c .before .before .before in
-    read-refused (read r) (omega (arith, length-replicate 8192 (pos 0))) (c .if1 .left)
+refuses : (c : tie.Else1) → let r = reader (c .before) in verdict (textChecks (input r)) ≡ refused (r .read-points .result .answer) (r .read-points .result .place)
+refuses c = read-refused (read (reader (c .before))) (omega (arith, length-replicate 8192 (pos 0))) (c .if1 .left)
 
 returns : tie.Need-returns
 returns c =

@@ -1,8 +1,9 @@
 -- `text::list` meets its contract: forward's answer is printed, and a list fits.
 use native.Mathlib.Omega.{arith}
 use mathlib.Core.Path.{_≡_, ap, _∙_}
+use mathlib.Core.List.{List}
 use lib.ListN.{length, replicate, length-replicate}
-use lib.IntN.{pos}
+use lib.IntN.{ℤ, pos}
 use borrow.Author.Needs.{needs}
 use Rattle.rule.specs.Checks.{accepted, refused}
 use Rattle.rule.specs.Answers.{ForwardAccepted, ForwardDone, forwardList, forwardSums}
@@ -15,26 +16,31 @@ use Rattle.text.proofs.Listing.{says-accepted, says-refused, listed-lin
 use Rattle.text.proofs.list.Statement.{statement}
 use Rattle.text.proofs.list.Tie as tie
 
--- the arrays that forward is lent have the program's lengths
-ran : (c : tie.After-forward) → ForwardDone (c .before .before .before .before .args .points .now) (replicate mostWork (pos 0)) (replicate mostList (pos 0)) (c .forward .result) (c .forward .last .1 .0) (c .forward .last .1 .1 .0)
+-- the points that forward is given, and where it has answered
+abbrev points : tie.After-forward → List ℤ
+points f = f .before .before .before .before .args .points .now
+
+abbrev answered : tie.After-struct-known → tie.After-forward
+answered c = c .before .before .before
+
+-- the arrays that it is lent have the program's lengths
+ran : (c : tie.After-forward) → ForwardDone (points c) (replicate mostWork (pos 0)) (replicate mostList (pos 0)) (c .forward .result) (c .forward .last .1 .0) (c .forward .last .1 .1 .0)
 ran c = c .forward .ensures
 
-accepts : (c : tie.Then1) → says (c .before .before .before .before .before .before .before .before .args .points .now) ≡ accepted
-accepts c = says-accepted (ran (c .before .before .before .before)) (length-replicate mostWork (pos 0)) (length-replicate mostList (pos 0)) (c .if1 .taken)
+accepts : (c : tie.Then1) → says (points (answered (c .before))) ≡ accepted
+accepts c = says-accepted (ran (answered (c .before))) (length-replicate mostWork (pos 0)) (length-replicate mostList (pos 0)) (c .if1 .taken)
 
-lines : (c : tie.Then1) → let f = c .before .before .before .before in listed (f .forward .result) (f .forward .last .1 .1 .0) ≡ let a = f .before .before .before .before .args .points .now in listLines (forwardSums a) (forwardList a)
-lines c = listed-lines (ran (c .before .before .before .before)) (c .if1 .taken)
+lines : (c : tie.Then1) → let f = answered (c .before) in listed (f .forward .result) (f .forward .last .1 .1 .0) ≡ listLines (forwardSums (points f)) (forwardList (points f))
+lines c = listed-lines (ran (answered (c .before))) (c .if1 .taken)
 
-refuses : (c : tie.Else1) → let f = c .before .before .before .before in says (f .before .before .before .before .args .points .now) ≡ refused (f .forward .result .answer) (f .forward .result .place)
-refuses c =
-    let f = c .before .before .before .before in
-    says-refused (ran f) (length-replicate mostWork (pos 0)) (length-replicate mostList (pos 0)) (c .if1 .left)
+refuses : (c : tie.Else1) → let f = answered (c .before) in says (points f) ≡ refused (f .forward .result .answer) (f .forward .result .place)
+refuses c = says-refused (ran (answered (c .before))) (length-replicate mostWork (pos 0)) (length-replicate mostList (pos 0)) (c .if1 .left)
 
 print-list-requires : tie.Need-print-list-requires
 print-list-requires c κs =
     let t = c .before .before in
-    let f = t .before .before .before .before in
-    let a = f .before .before .before .before .args .points .now in
+    let f = answered (t .before) in
+    let a = points f in
     let ok : ForwardAccepted a mostWork mostList = forward-accepted a mostWork mostList .0 (accepts t) in
     let count : f .forward .result .count ≡ forwardSums a .count = ap (λ s. s .count) (done-told (ran f) (t .if1 .taken)) in
     let room : length (f .forward .last .1 .1 .0) ≡ mostList = lengths-kept (ran f) .1 ∙ length-replicate mostList (pos 0) in

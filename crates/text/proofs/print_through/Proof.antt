@@ -8,7 +8,7 @@ use borrow.Author.Needs.{needs}
 use Rattle.plane.specs.Words.{rectsOf}
 use Rattle.rule.specs.Answers.{sumsTold}
 use Rattle.text.specs.Program.{sumsLine, rectLines}
-use Rattle.numerals.proofs.Writing.{wrote-front, wrote-within, wrote-then, room-first, room-then}
+use Rattle.numerals.proofs.Writing.{wrote-front, wrote-within, wrote-both, room-first, room-then}
 use Rattle.text.proofs.print_through.Statement.{statement}
 use Rattle.text.proofs.print_through.Tie as tie
 
@@ -19,6 +19,13 @@ sums s = sumsLine (sumsTold (s .args .sums))
 abbrev rects : tie.Start → List ℕ
 rects s = rectLines (take (s .args .sums .count) (rectsOf (s .args .rects .now)))
 
+-- the places on the way: the start, and where the sums are put
+abbrev start : tie.After-put-sums → tie.Start
+start c = c .before .before .before .before
+
+abbrev sums-put : tie.After-put-rects → tie.After-put-sums
+sums-put c = c .before .before .before .before
+
 -- both have room
 fits : (s : tie.Start) → 0 + length (sums s ++ rects s) ≤ length (s .args .lines .now)
 fits s = omega (arith, s .pre .1)
@@ -26,15 +33,13 @@ fits s = omega (arith, s .pre .1)
 first-fits : (s : tie.Start) → 0 + length (sums s) ≤ length (s .args .lines .now)
 first-fits s = room-first 0 _ (sums s) (rects s) (fits s)
 
-rest-fits : (c : tie.After-put-sums) → let s = c .before .before .before .before in c .put-sums .result + length (rects s) ≤ length (c .put-sums .last .0)
-rest-fits c = let s = c .before .before .before .before in room-then (rects s) (c .put-sums .ensures) (fits s)
+rest-fits : (c : tie.After-put-sums) → c .put-sums .result + length (rects (start c)) ≤ length (c .put-sums .last .0)
+rest-fits c = room-then (rects (start c)) (c .put-sums .ensures) (fits (start c))
 
 -- what is put are both
-lines : (c : tie.After-put-rects) → let s = c .before .before .before .before .before .before .before .before in (c .put-rects .result ≡ length (sums s ++ rects s)) × (take (c .put-rects .result) (c .put-rects .last .0) ≡ sums s ++ rects s)
+lines : (c : tie.After-put-rects) → let s = start (sums-put c) in (c .put-rects .result ≡ length (sums s ++ rects s)) × (take (c .put-rects .result) (c .put-rects .last .0) ≡ sums s ++ rects s)
 lines c =
-    let d = c .before .before .before .before in
-    let s = d .before .before .before .before in
-    let w = wrote-then (d .put-sums .ensures) (c .put-rects .ensures) (first-fits s) in
+    let w = wrote-both (sums-put c .put-sums .ensures) (c .put-rects .ensures) (fits (start (sums-put c))) in
     (omega (arith, w .place), wrote-front w)
 
 returns : tie.Need-returns
@@ -48,8 +53,8 @@ print-through-spec =
     tie.close
     (tie.spec
     (λ c κs. omega (arith, first-fits (c .before .before .before)))
-    (λ c κs. let d = c .before .before .before in (d .before .before .before .before .pre .0, rest-fits d))
-    (λ c. let d = c .before .before .before in wrote-within (d .put-rects .ensures) (rest-fits (d .before .before .before .before)))
+    (λ c κs. let d = c .before .before .before in (start d .pre .0, rest-fits d))
+    (λ c. let d = c .before .before .before in wrote-within (d .put-rects .ensures) (rest-fits (sums-put d)))
     (λ c. let h = lines (c .before .before .before .before) in h .0 ∙ sym (ap length (h .1)))
     (λ c κs. search needs)
     (λ c. search needs)

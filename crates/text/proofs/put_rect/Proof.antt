@@ -9,10 +9,20 @@ use Rattle.plane.proofs.Bits.{back}
 use Rattle.numerals.specs.Bytes.{ascii}
 use Rattle.numerals.specs.Inner.{Wrote}
 use Rattle.text.specs.Inner.{field}
-use Rattle.numerals.proofs.Writing.{wrote-then, room-first, room-then}
+use Rattle.numerals.proofs.Writing.{wrote-both, room-first, room-then}
 use Rattle.text.proofs.Lines.{rect-pieces}
 use Rattle.text.proofs.put_rect.Statement.{statement}
 use Rattle.text.proofs.put_rect.Tie as tie
+
+-- the places on the way: the start, and where x and y are put
+abbrev start : tie.After-put-field → tie.Start
+start c = c .before .before .before .before .before
+
+abbrev x-put : tie.After-put-field2 → tie.After-put-field
+x-put c = c .before .before .before .before .before .before
+
+abbrev y-put : tie.After-put-field3 → tie.After-put-field2
+y-put c = c .before .before .before .before .before .before
 
 -- the pieces, and what is left after each
 abbrev x : tie.Start → List ℕ
@@ -34,33 +44,24 @@ abbrev from-y : tie.Start → List ℕ
 from-y s = y s ++ from-w s
 
 -- each is written
-wrote-x : (c : tie.After-put-field) → let s = c .before .before .before .before .before in Wrote (s .args .out .now) (s .args .at) (x s) (c .put-field .result) (c .put-field .last .0)
-wrote-x c = let s = c .before .before .before .before .before in rw (back (s .args .r .x) (omega arith)) at (c .put-field .ensures)
+wrote-x : (c : tie.After-put-field) → let s = start c in Wrote (s .args .out .now) (s .args .at) (x s) (c .put-field .result) (c .put-field .last .0)
+wrote-x c = rw (back (start c .args .r .x) (omega arith)) at (c .put-field .ensures)
 
-wrote-y : (c : tie.After-put-field2) → let d = c .before .before .before .before .before .before in let s = d .before .before .before .before .before in Wrote (d .put-field .last .0) (d .put-field .result) (y s) (c .put-field2 .result) (c .put-field2 .last .0)
-wrote-y c =
-    let d = c .before .before .before .before .before .before in
-    let s = d .before .before .before .before .before in
-    rw (back (s .args .r .y) (omega arith)) at (c .put-field2 .ensures)
+wrote-y : (c : tie.After-put-field2) → let d = x-put c in Wrote (d .put-field .last .0) (d .put-field .result) (y (start d)) (c .put-field2 .result) (c .put-field2 .last .0)
+wrote-y c = rw (back (start (x-put c) .args .r .y) (omega arith)) at (c .put-field2 .ensures)
 
-wrote-w : (c : tie.After-put-field3) → let d = c .before .before .before .before .before .before in let s = d .before .before .before .before .before .before .before .before .before .before .before in Wrote (d .put-field2 .last .0) (d .put-field2 .result) (w s) (c .put-field3 .result) (c .put-field3 .last .0)
-wrote-w c =
-    let d = c .before .before .before .before .before .before in
-    let s = d .before .before .before .before .before .before .before .before .before .before .before in
-    rw (back (s .args .r .w) (omega arith)) at (c .put-field3 .ensures)
+wrote-w : (c : tie.After-put-field3) → let d = y-put c in Wrote (d .put-field2 .last .0) (d .put-field2 .result) (w (start (x-put d))) (c .put-field3 .result) (c .put-field3 .last .0)
+wrote-w c = rw (back (start (x-put (y-put c)) .args .r .w) (omega arith)) at (c .put-field3 .ensures)
 
 -- there is room for what is left
 room-x : (s : tie.Start) → s .args .at + length (x s ++ from-y s) ≤ length (s .args .out .now)
 room-x s = omega (arith, ap length (rect-pieces (s .args .r)), s .pre)
 
-room-y : (c : tie.After-put-field) → let s = c .before .before .before .before .before in c .put-field .result + length (from-y s) ≤ length (c .put-field .last .0)
-room-y c = let s = c .before .before .before .before .before in room-then (from-y s) (wrote-x c) (room-x s)
+room-y : (c : tie.After-put-field) → c .put-field .result + length (from-y (start c)) ≤ length (c .put-field .last .0)
+room-y c = room-then (from-y (start c)) (wrote-x c) (room-x (start c))
 
-room-w : (c : tie.After-put-field2) → let s = c .before .before .before .before .before .before .before .before .before .before .before in c .put-field2 .result + length (from-w s) ≤ length (c .put-field2 .last .0)
-room-w c =
-    let d = c .before .before .before .before .before .before in
-    let s = d .before .before .before .before .before in
-    room-then (from-w s) (wrote-y c) (room-y d)
+room-w : (c : tie.After-put-field2) → c .put-field2 .result + length (from-w (start (x-put c))) ≤ length (c .put-field2 .last .0)
+room-w c = room-then (from-w (start (x-put c))) (wrote-y c) (room-y (x-put c))
 
 put-field-requires : tie.Need-put-field-requires
 put-field-requires c κs =
@@ -70,38 +71,30 @@ put-field-requires c κs =
 put-field-requires-2 : tie.Need-put-field-requires-2
 put-field-requires-2 c κs =
     let d = c .before .before .before .before .before in
-    let s = d .before .before .before .before .before in
+    let s = start d in
     rw (back (s .args .r .y) (omega arith)) (room-first _ _ (y s) (from-w s) (room-y d))
 
 put-field-requires-3 : tie.Need-put-field-requires-3
 put-field-requires-3 c κs =
     let d = c .before .before .before .before .before in
-    let s = d .before .before .before .before .before .before .before .before .before .before .before in
+    let s = start (x-put d) in
     rw (back (s .args .r .w) (omega arith)) (room-first _ _ (w s) (h s) (room-w d))
 
 put-field-requires-4 : tie.Need-put-field-requires-4
 put-field-requires-4 c κs =
     let e = c .before .before .before .before .before in
-    let d = e .before .before .before .before .before .before in
-    let s = d .before .before .before .before .before .before .before .before .before .before .before in
-    rw (back (s .args .r .h) (omega arith)) (room-then (h s) (wrote-w e) (room-w d))
-
-wrote-h : (c : tie.After-put-field4) → let d = c .before .before .before .before .before .before in let s = d .before .before .before .before .before .before .before .before .before .before .before .before .before .before .before .before .before in Wrote (d .put-field3 .last .0) (d .put-field3 .result) (h s) (c .put-field4 .result) (c .put-field4 .last .0)
-wrote-h c =
-    let d = c .before .before .before .before .before .before in
-    let s = d .before .before .before .before .before .before .before .before .before .before .before .before .before .before .before .before .before in
-    rw (back (s .args .r .h) (omega arith)) at (c .put-field4 .ensures)
+    let s = start (x-put (y-put e)) in
+    rw (back (s .args .r .h) (omega arith)) (room-then (h s) (wrote-w e) (room-w (y-put e)))
 
 returns : tie.Need-returns
 returns c =
     let f = c .before .before in
     let e = f .before .before .before .before .before .before in
-    let d = e .before .before .before .before .before .before in
-    let b = d .before .before .before .before .before .before in
-    let s = b .before .before .before .before .before in
-    let wrote-from-w = wrote-then (wrote-w e) (wrote-h f) (room-first _ _ (w s) (h s) (room-w d)) in
-    let wrote-from-y = wrote-then (wrote-y d) wrote-from-w (room-first _ _ (y s) (from-w s) (room-y b)) in
-    rw (rect-pieces (s .args .r)) (wrote-then (wrote-x b) wrote-from-y (room-first _ _ (x s) (from-y s) (room-x s)))
+    let d = y-put e in
+    let b = x-put d in
+    let s = start b in
+    let wrote-h = rw (back (s .args .r .h) (omega (arith, s))) at (f .put-field4 .ensures) in
+    rw (rect-pieces (s .args .r)) (wrote-both (wrote-x b) (wrote-both (wrote-y d) (wrote-both (wrote-w e) wrote-h (room-w d)) (room-y b)) (room-x s))
 
 pub put-rect-spec : {M : Type 1} → statement M
 put-rect-spec =

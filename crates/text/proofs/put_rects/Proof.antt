@@ -26,9 +26,12 @@ loop-holds : tie.Need-loop-holds Inv-loop μ-loop
 unfolding rectLines
 loop-holds c = (search needs, wrote-nothing _ _)
 
--- the rectangles, those whose lines are written, and the next
+-- the start, the rectangles, those whose lines are written, and the next
+abbrev start : tie.At-loop Inv-loop μ-loop → tie.Start Inv-loop μ-loop
+start l = l .before .before
+
 abbrev rs : tie.In-loop Inv-loop μ-loop → List Rect
-rs c = rectsOf (c .before .before .before .args .rects .now)
+rs c = rectsOf (start (c .before) .args .rects .now)
 
 abbrev so-far : tie.In-loop Inv-loop μ-loop → List ℕ
 so-far c = rectLines (take (c .before .loop .i) (rs c))
@@ -38,12 +41,12 @@ line c = rectLine (rectAt (rs c) (c .before .loop .i))
 
 -- with the next line they are one more
 next : (c : tie.In-loop Inv-loop μ-loop) → rectLines (take (c .before .loop .i + 1) (rs c)) ≡ so-far c ++ line c
-next c = rw add-one (rect-lines-next (rs c) (c .before .loop .i) (omega (arith, length-rects (c .before .before .before .args .rects .now))))
+next c = rw add-one (rect-lines-next (rs c) (c .before .loop .i) (omega (arith, length-rects (start (c .before) .args .rects .now))))
 
 -- and there is room for them
-room : (c : tie.In-loop Inv-loop μ-loop) → let s = c .before .before .before in s .args .at + length (so-far c ++ line c) ≤ length (s .args .out .now)
+room : (c : tie.In-loop Inv-loop μ-loop) → let s = start (c .before) in s .args .at + length (so-far c ++ line c) ≤ length (s .args .out .now)
 room c =
-    let s = c .before .before .before in
+    let s = start (c .before) in
     omega (arith, ap length (next c), rect-lines-more (rs c) (c .before .loop .i + 1) (s .args .n) (omega arith), s .pre)
 
 put-rect-requires : tie.Need-put-rect-requires Inv-loop μ-loop
@@ -56,15 +59,14 @@ loop-again c =
     let p = c .before .before in
     let r = p .before in
     let d = r .before .before in
-    let s = d .before .before .before in
+    let s = start (d .before) in
     let one = rw (r .rect-at .ensures) at (p .put-rect .ensures) in
     (omega arith, rw (next d) (wrote-then (d .before .loop .inv .1) one (room-first (s .args .at) _ (so-far d) (line d) (room d))))
 
 same-length : tie.Need-same-length Inv-loop μ-loop
 same-length c =
-    let s = c .before .before .before in
-    let rs = rectsOf (s .args .rects .now) in
-    wrote-length (c .before .loop .inv .1) (omega (arith, rect-lines-more rs (c .before .loop .i) (s .args .n) (omega arith), s .pre))
+    let s = start (c .before) in
+    wrote-length (c .before .loop .inv .1) (omega (arith, rect-lines-more (rectsOf (s .args .rects .now)) (c .before .loop .i) (s .args .n) (omega arith), s .pre))
 
 returns : tie.Need-returns Inv-loop μ-loop
 returns c = let e : c .before .loop .i ≡ c .before .before .before .args .n = omega arith in rw e at (c .before .loop .inv .1)

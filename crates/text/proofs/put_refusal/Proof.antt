@@ -7,7 +7,7 @@ use lib.ListN.{length}
 use borrow.Author.Needs.{needs}
 use Rattle.numerals.specs.Bytes.{ascii}
 use Rattle.text.specs.Inner.{worded}
-use Rattle.numerals.proofs.Writing.{wrote, wrote-then, room-first, room-then}
+use Rattle.numerals.proofs.Writing.{put-third, room-first, room-then}
 use Rattle.text.proofs.Lines.{refusal-pieces}
 use Rattle.text.proofs.put_refusal.Statement.{statement}
 use Rattle.text.proofs.put_refusal.Tie as tie
@@ -22,21 +22,18 @@ place s = worded (ascii " place ") (s .args .place)
 abbrev from-place : tie.Start → List ℕ
 from-place s = place s ++ ascii "\n"
 
--- there is room for what is left
-room₁ : (s : tie.Start) → 0 + length (number s ++ from-place s) ≤ length (s .args .out .now)
-room₁ s = omega (arith, ap length (refusal-pieces (s .args .number) (s .args .place)), s .pre)
-
-room₂ : (c : tie.After-put-worded) → let s = c .before .before .before .before in c .put-worded .result + length (from-place s) ≤ length (c .put-worded .last .0)
-room₂ c = let s = c .before .before .before .before in room-then (from-place s) (c .put-worded .ensures) (room₁ s)
+-- there is room for all
+room : (s : tie.Start) → 0 + length (number s ++ from-place s) ≤ length (s .args .out .now)
+room s = omega (arith, ap length (refusal-pieces (s .args .number) (s .args .place)), s .pre)
 
 put-worded-requires : tie.Need-put-worded-requires
-put-worded-requires c κs = let s = c .before .before .before in room-first 0 _ (number s) (from-place s) (room₁ s)
+put-worded-requires c κs = let s = c .before .before .before in room-first 0 _ (number s) (from-place s) (room s)
 
 put-worded-requires-2 : tie.Need-put-worded-requires-2
 put-worded-requires-2 c κs =
     let d = c .before .before .before .before in
     let s = d .before .before .before .before in
-    room-first _ _ (place s) (ascii "\n") (room₂ d)
+    room-first _ _ (place s) (ascii "\n") (room-then (from-place s) (d .put-worded .ensures) (room s))
 
 returns : tie.Need-returns
 returns c =
@@ -44,9 +41,7 @@ returns c =
     let p = w .before .before .before .before .before in
     let n = p .before .before .before .before .before in
     let s = n .before .before .before .before in
-    let end = wrote (w .put-bytes .ensures) (room-then (ascii "\n") (p .put-worded2 .ensures) (room₂ n)) in
-    let from₂ = wrote-then (p .put-worded2 .ensures) end (room-first _ _ (place s) (ascii "\n") (room₂ n)) in
-    rw (refusal-pieces (s .args .number) (s .args .place)) (wrote-then (n .put-worded .ensures) from₂ (room-first 0 _ (number s) (from-place s) (room₁ s)))
+    rw (refusal-pieces (s .args .number) (s .args .place)) (put-third (n .put-worded .ensures) (p .put-worded2 .ensures) (w .put-bytes .ensures) (room s))
 
 pub put-refusal-spec : {M : Type 1} → statement M
 put-refusal-spec =

@@ -8,7 +8,7 @@ use borrow.Author.Needs.{needs}
 use Rattle.rule.specs.Answers.{sumsTold}
 use Rattle.numerals.specs.Bytes.{ascii}
 use Rattle.text.specs.Inner.{worded}
-use Rattle.numerals.proofs.Writing.{wrote, wrote-then, room-first, room-then}
+use Rattle.numerals.proofs.Writing.{wrote-both, put-third, room-first, room-then}
 use Rattle.text.proofs.Lines.{sums-pieces}
 use Rattle.text.proofs.put_sums.Statement.{statement}
 use Rattle.text.proofs.put_sums.Tie as tie
@@ -29,18 +29,19 @@ from-edge s = edge s ++ ascii "\n"
 abbrev from-area : tie.Start → List ℕ
 from-area s = area s ++ from-edge s
 
+-- the places on the way: the start, and where the count is put
+abbrev start : tie.After-put-worded → tie.Start
+start c = c .before .before .before .before
+
+abbrev count-put : tie.After-put-worded2 → tie.After-put-worded
+count-put c = c .before .before .before .before .before
+
 -- there is room for what is left
 room₁ : (s : tie.Start) → 0 + length (count s ++ from-area s) ≤ length (s .args .out .now)
 room₁ s = omega (arith, ap length (sums-pieces (sumsTold (s .args .sums))), s .pre)
 
-room₂ : (c : tie.After-put-worded) → let s = c .before .before .before .before in c .put-worded .result + length (from-area s) ≤ length (c .put-worded .last .0)
-room₂ c = let s = c .before .before .before .before in room-then (from-area s) (c .put-worded .ensures) (room₁ s)
-
-room₃ : (c : tie.After-put-worded2) → let s = c .before .before .before .before .before .before .before .before .before in c .put-worded2 .result + length (from-edge s) ≤ length (c .put-worded2 .last .0)
-room₃ c =
-    let d = c .before .before .before .before .before in
-    let s = d .before .before .before .before in
-    room-then (from-edge s) (c .put-worded2 .ensures) (room₂ d)
+room₂ : (c : tie.After-put-worded) → c .put-worded .result + length (from-area (start c)) ≤ length (c .put-worded .last .0)
+room₂ c = room-then (from-area (start c)) (c .put-worded .ensures) (room₁ (start c))
 
 put-worded-requires : tie.Need-put-worded-requires
 put-worded-requires c κs = let s = c .before .before .before in room-first 0 _ (count s) (from-area s) (room₁ s)
@@ -48,26 +49,22 @@ put-worded-requires c κs = let s = c .before .before .before in room-first 0 _ 
 put-worded-requires-2 : tie.Need-put-worded-requires-2
 put-worded-requires-2 c κs =
     let d = c .before .before .before .before in
-    let s = d .before .before .before .before in
-    room-first _ _ (area s) (from-edge s) (room₂ d)
+    room-first _ _ (area (start d)) (from-edge (start d)) (room₂ d)
 
 put-worded-requires-3 : tie.Need-put-worded-requires-3
 put-worded-requires-3 c κs =
     let d = c .before .before .before .before in
-    let s = d .before .before .before .before .before .before .before .before .before in
-    room-first _ _ (edge s) (ascii "\n") (room₃ d)
+    let s = start (count-put d) in
+    room-first _ _ (edge s) (ascii "\n") (room-then (from-edge s) (d .put-worded2 .ensures) (room₂ (count-put d)))
 
 returns : tie.Need-returns
 returns c =
     let w = c .before .before in
     let e = w .before .before .before .before .before in
     let a = e .before .before .before .before .before in
-    let n = a .before .before .before .before .before in
-    let s = n .before .before .before .before in
-    let end = wrote (w .put-bytes .ensures) (room-then (ascii "\n") (e .put-worded3 .ensures) (room₃ a)) in
-    let from₃ = wrote-then (e .put-worded3 .ensures) end (room-first _ _ (edge s) (ascii "\n") (room₃ a)) in
-    let from₂ = wrote-then (a .put-worded2 .ensures) from₃ (room-first _ _ (area s) (from-edge s) (room₂ n)) in
-    rw (sums-pieces (sumsTold (s .args .sums))) (wrote-then (n .put-worded .ensures) from₂ (room-first 0 _ (count s) (from-area s) (room₁ s)))
+    let n = count-put a in
+    let from-area-put = put-third (a .put-worded2 .ensures) (e .put-worded3 .ensures) (w .put-bytes .ensures) (room₂ n) in
+    rw (sums-pieces (sumsTold (start n .args .sums))) (wrote-both (n .put-worded .ensures) from-area-put (room₁ (start n)))
 
 pub put-sums-spec : {M : Type 1} → statement M
 put-sums-spec =

@@ -157,7 +157,12 @@ module _ {rs : List Rect} (acc : AcceptedRects rs) where
         omega (arith, length-append (batchOf 0 start (backList rs)) batch, ap length batch-joins, ap length (t .keys), length-keys batch)
 
     -- its points, written into the part after those before, are written after them
-    pub batch-written : (out : List ℤ) {listed : ℕ} {points part : List ℤ} → listed ≡ length (batchOf 0 start (backList rs)) → points ≡ written accepted (flatPoints (batchOf 0 start (backList rs))) out → let n = length points - 2 * listed in part ≡ written accepted (flatPoints (pointsAt ks)) (take n (drop (2 * listed) points)) → take (2 * listed) points ++ (part ++ drop n (drop (2 * listed) points)) ≡ written accepted (flatPoints (batchOf 0 (b .end) (backList rs))) out
+    pub batch-written :
+        (out : List ℤ) {listed : ℕ} {points part : List ℤ} → listed ≡ length (batchOf 0 start (backList rs)) →
+        points ≡ written accepted (flatPoints (batchOf 0 start (backList rs))) out →
+        let n = length points - 2 * listed in
+        part ≡ written accepted (flatPoints (pointsAt ks)) (take n (drop (2 * listed) points)) →
+        take (2 * listed) points ++ (part ++ drop n (drop (2 * listed) points)) ≡ written accepted (flatPoints (batchOf 0 (b .end) (backList rs))) out
     batch-written out {listed} e w p =
         let before : List Point = batchOf 0 start (backList rs) in
         let batch : List Point = batchOf start (b .end) (backList rs) in

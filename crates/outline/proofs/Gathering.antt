@@ -63,7 +63,9 @@ pub takes-missed : {start k : ℕ} {b : Batch} {keys : List ℕ} (left right : �
 takes-missed {start} {k} {b} left right few l m e = record { few = few; takes = λ asked all rest g. record { beyond = g .beyond; not-beyond = g .not-beyond; parity = λ f. rw (missed-out start (b .end) left right k l m e, xor-false) at (came g f) } }
 
 -- a key that is not missed is put after the others
-gathers-put : {start asked k n : ℕ} {b : Batch} {all rest : List ℕ} (keys : List ℕ) → b .count < length keys → misses start (b .end) k k ≡ false → Gathers start asked b all (k ∷ rest) (take (b .count) keys) → Gathers start asked (record { count = n; end = b .end }) all rest (take (b .count + 1) (set keys (b .count) k))
+gathers-put :
+    {start asked k n : ℕ} {b : Batch} {all rest : List ℕ} (keys : List ℕ) → b .count < length keys → misses start (b .end) k k ≡ false →
+    Gathers start asked b all (k ∷ rest) (take (b .count) keys) → Gathers start asked (record { count = n; end = b .end }) all rest (take (b .count + 1) (set keys (b .count) k))
 gathers-put {start} {k = k} {b = b} keys l e g =
     record {
       beyond = g .beyond;
@@ -142,7 +144,10 @@ pub record CornerKeys (r : Rect) (left right top-left top-right : ℕ) : Type 0 
   pub high : top-left < top-right
 
 -- of a rectangle that is not flat, and in range
-pub corner-keys : (r : Rect) {left right top-left top-right : ℕ} → flat r ≡ false → rectInRange r ≡ true → left ≡ keyOf (cornerAt r false false) → right ≡ keyOf (cornerAt r true false) → top-left ≡ keyOf (cornerAt r false true) → top-right ≡ keyOf (cornerAt r true true) → CornerKeys r left right top-left top-right
+pub corner-keys :
+    (r : Rect) {left right top-left top-right : ℕ} → flat r ≡ false → rectInRange r ≡ true →
+    left ≡ keyOf (cornerAt r false false) → right ≡ keyOf (cornerAt r true false) →
+    top-left ≡ keyOf (cornerAt r false true) → top-right ≡ keyOf (cornerAt r true true) → CornerKeys r left right top-left top-right
 unfolding keysOf cornersOf
 corner-keys r solid range a b c d = record { keys = rw (a, b, c, d); low = omega (arith, rises false); high = omega (arith, rises true) }
   where
@@ -152,14 +157,15 @@ corner-keys r solid range a b c d = record { keys = rw (a, b, c, d); low = omega
         let q = cornerAt r true at-top in
         ltb-true (keyOf p) (keyOf q) (key-order p q (corner-in-range r false at-top refl range) (corner-in-range r true at-top refl range) ∙ before-along (r .x) (right r) (p .y) (solid-sides r solid .0))
 
--- taken one after another, they are taken
-pub takes-corners : {start left right top-left top-right : ℕ} {r : Rect} {a b c d e : Batch} {x y z u v : List ℕ} → CornerKeys r left right top-left top-right → Takes start (left ∷ []) a x b y → Takes start (right ∷ []) b y c z → Takes start (top-left ∷ []) c z d u → Takes start (top-right ∷ []) d u e v → Takes start (keysOf (cornersOf r)) a x e v
-takes-corners k s t p q = rw (k .keys) (takes-then s (takes-then t (takes-then p q)))
-
 -- the keys of a row that is missed are taken by doing nothing
 row-missed : {start left right : ℕ} {b : Batch} {keys : List ℕ} → left < right → b .count < mostKeys → misses start (b .end) left right ≡ true → Takes start (left ∷ right ∷ []) b keys b keys
 row-missed {left = left} {right} l few m = takes-then (takes-missed left right few (omega arith) (omega arith) m) (takes-missed left right few (omega arith) (omega arith) m)
 
--- and so are those of two such rows
-pub corners-missed : {start left right top-left top-right : ℕ} {r : Rect} {b : Batch} {keys : List ℕ} → CornerKeys r left right top-left top-right → b .count < mostKeys → misses start (b .end) left right ≡ true → misses start (b .end) top-left top-right ≡ true → Takes start (keysOf (cornersOf r)) b keys b keys
-corners-missed k few m n = rw (k .keys) (takes-then (row-missed (k .low) few m) (row-missed (k .high) few n))
+module _ {start left right top-left top-right : ℕ} {r : Rect} (k : CornerKeys r left right top-left top-right) where
+  -- the four keys, taken one after another, are taken
+  pub takes-corners : {a b c d e : Batch} {x y z u v : List ℕ} → Takes start (left ∷ []) a x b y → Takes start (right ∷ []) b y c z → Takes start (top-left ∷ []) c z d u → Takes start (top-right ∷ []) d u e v → Takes start (keysOf (cornersOf r)) a x e v
+  takes-corners s t p q = rw (k .keys) (takes-then s (takes-then t (takes-then p q)))
+
+  -- and so are those of two rows that are missed
+  pub corners-missed : {b : Batch} {keys : List ℕ} → b .count < mostKeys → misses start (b .end) left right ≡ true → misses start (b .end) top-left top-right ≡ true → Takes start (keysOf (cornersOf r)) b keys b keys
+  corners-missed few m n = rw (k .keys) (takes-then (row-missed (k .low) few m) (row-missed (k .high) few n))

@@ -285,7 +285,9 @@ module _ {work : List ℤ} {n : ℕ} {k l m : Point} (g : Begun work n k l) (at 
       is-m (begun-picked g) w (w .within) (a .0) (rw inside) (omega order) (record { even = λ q h. b .even q (omega order) })
 
   -- the lowest of the rows that a pass leaves in a table, one or more, is row M
-  pub odd-stops : {low end r : Point} (c : ℕ) (table : List ℤ) → EvenBelow k low (held n work) → OddBeside k low end (held n work) (held c table) → Between low m end → 2 * c ≤ length table → 0 < c → r ≡ Option·getD (firstOf (λ p. true) (held c table)) k → r ≡ record { x = k .x; y = pickM k l (held n work) }
+  pub odd-stops :
+      {low end r : Point} (c : ℕ) (table : List ℤ) → EvenBelow k low (held n work) → OddBeside k low end (held n work) (held c table) →
+      Between low m end → 2 * c ≤ length table → 0 < c → r ≡ Option·getD (firstOf (λ p. true) (held c table)) k → r ≡ record { x = k .x; y = pickM k l (held n work) }
   unfolding stops
   odd-stops {low} {end} {r} c table b o t fits some e =
       let rows : List Point = held c table in

@@ -15,19 +15,22 @@ ranges : (s : tie.Start) → let p = s .args .p in (inRange (p .x) ≡ true) × 
 unfolding pointInRange
 ranges s = let p = s .args .p in and-parts (inRange (p .x)) (inRange (p .y)) (s .pre)
 
+abbrev start : tie.After-from-low → tie.Start
+start c = c .before .before
+
 -- the rows below
-rows : (c : tie.After-from-low) → c .from-low .result ≡ fromLow (c .before .before .args .p .y)
-rows c = c .from-low .ensures ∙ ap fromLow (back (c .before .before .args .p .y) (omega arith))
+rows : (c : tie.After-from-low) → c .from-low .result ≡ fromLow (start c .args .p .y)
+rows c = c .from-low .ensures ∙ ap fromLow (back (start c .args .p .y) (omega arith))
 
 -- the columns to the left
-columns : (c : tie.After-from-low2) → c .from-low2 .result ≡ fromLow (c .before .before .before .before .args .p .x)
-columns c = c .from-low2 .ensures ∙ ap fromLow (back (c .before .before .before .before .args .p .x) (omega arith))
+columns : (c : tie.After-from-low2) → c .from-low2 .result ≡ fromLow (start (c .before .before) .args .p .x)
+columns c = c .from-low2 .ensures ∙ ap fromLow (back (start (c .before .before) .args .p .x) (omega arith))
 
 mul-result : tie.Need-mul-result
-mul-result c = let s = c .before .before in let l = point-low (s .args .p) (s .pre) in rw (rows c) (omega arith)
+mul-result c = let s = start c in let l = point-low (s .args .p) (s .pre) in rw (rows c) (omega arith)
 
 add-result : tie.Need-add-result
-add-result c = let s = c .before .before .before .before in let l = point-low (s .args .p) (s .pre) in rw (rows (c .before .before), columns c) (omega arith)
+add-result c = let s = start (c .before .before) in let l = point-low (s .args .p) (s .pre) in rw (rows (c .before .before), columns c) (omega arith)
 
 returns : tie.Need-returns
 unfolding keyOf
@@ -39,6 +42,6 @@ key-of-spec =
     (tie.spec
     (λ c κs. rw (back (c .before .args .p .y) (omega arith)) (ranges (c .before) .1))
     mul-result
-    (λ c κs. rw (back (c .before .before .before .args .p .x) (omega arith)) (ranges (c .before .before .before) .0))
+    (λ c κs. let s = start (c .before) in rw (back (s .args .p .x) (omega arith)) (ranges s .0))
     add-result
     returns)

@@ -60,15 +60,22 @@ gather-requires c κs =
     let i = l .loop .inv in
     (l .before .before .pre .0, (i .ahead (search needs), search needs))
 
+-- in a turn: where the batch is gathered, and the loop's place
+abbrev gathered : tie.After-slice-known2 Inv-loop μ-loop → tie.After-gather Inv-loop μ-loop
+gathered c = c .before .before
+
 abbrev loop-of : tie.After-gather Inv-loop μ-loop → tie.At-loop Inv-loop μ-loop
 loop-of g = g .before .before .before
 
--- the answer
+-- the answer, and its points below the batch's end
 abbrev answer : tie.After-gather Inv-loop μ-loop → List Point
 answer g = backList (rectsOf (loop-of g .before .before .args .rects .now))
 
--- with the batch, the points below its end are listed
-listed-on : (g : tie.After-gather Inv-loop μ-loop) → let b = g .gather .result in loop-of g .loop .listed + b .count ≡ length (batchOf 0 (b .end) (answer g))
+abbrev below : tie.After-gather Inv-loop μ-loop → List Point
+below g = batchOf 0 (g .gather .result .end) (answer g)
+
+-- with the batch they are listed
+listed-on : (g : tie.After-gather Inv-loop μ-loop) → loop-of g .loop .listed + g .gather .result .count ≡ length (below g)
 listed-on g =
     let l = loop-of g in
     batch-listed (l .before .before .pre .0) (g .gather .ensures) (length-take-le (g .gather .result .count) (g .gather .last .1 .0) (omega arith)) (l .loop .inv .many)
@@ -78,29 +85,29 @@ listed-most : (g : tie.After-gather Inv-loop μ-loop) → loop-of g .loop .liste
 listed-most g = omega (arith, listed-on g, batch-few 0 (g .gather .result .end) (answer g))
 
 -- and have room, if they are to be written
-has-room : (c : tie.Then1 Inv-loop μ-loop) → let g = c .before .before .before in 2 * (loop-of g .loop .listed + g .gather .result .count) ≤ length (loop-of g .loop .points)
+has-room : (c : tie.Then1 Inv-loop μ-loop) → let g = gathered (c .before) in 2 * (loop-of g .loop .listed + g .gather .result .count) ≤ length (loop-of g .loop .points)
 has-room c =
-    let g = c .before .before .before in
+    let g = gathered (c .before) in
     let l = loop-of g in
     omega (arith, listed-most g, l .before .before .pre .1 .1 (c .if1 .taken), l .loop .inv .points-length)
 
 put-points-requires : tie.Need-put-points-requires Inv-loop μ-loop
 put-points-requires c κs =
-    let g = c .before .before .before .before .before in
-    let l = loop-of g in
-    let h = has-room (c .before .before) in
-    (search needs, simp (length-take, length-drop) (omega arith), batch-are-keys (l .before .before .pre .0) (g .gather .ensures))
+    let t = c .before .before in
+    let g = gathered (t .before) in
+    let h = has-room t in
+    (search needs, simp (length-take, length-drop) (omega arith), batch-are-keys (loop-of g .before .before .pre .0) (g .gather .ensures))
 
 add-listed : tie.Need-add-listed Inv-loop μ-loop
 add-listed c =
-    let g = c .before .before .before in
+    let g = gathered (c .before) in
     let rects = loop-of g .before .before .args .rects .now in
     omega (arith, listed-most g, back-length (rectsOf rects), length-rects rects)
 
 -- the points of the batch are written after those before, if they are to be
-written-on : (c : tie.Joined1 Inv-loop μ-loop) → let g = c .before .before .before in let s = loop-of g .before .before .args in (length (c .if1 .points) ≡ length (s .points .now)) × (c .if1 .points ≡ cond (s .writes) (written accepted (flatPoints (batchOf 0 (g .gather .result .end) (answer g))) (s .points .now)) (s .points .now))
+written-on : (c : tie.Joined1 Inv-loop μ-loop) → let g = gathered (c .before) in let s = loop-of g .before .before .args in (length (c .if1 .points) ≡ length (s .points .now)) × (c .if1 .points ≡ cond (s .writes) (written accepted (flatPoints (below g)) (s .points .now)) (s .points .now))
 written-on c =
-    let g = c .before .before .before in
+    let g = gathered (c .before) in
     let l = loop-of g in
     let s = l .before .before in
     let i = l .loop .inv in
@@ -111,7 +118,7 @@ written-on c =
 
 loop-again : tie.Need-loop-again Inv-loop μ-loop
 loop-again c =
-    let g = c .before .before .before .before in
+    let g = gathered (c .before .before) in
     let w = written-on (c .before) in
     record {
       started = search needs;

@@ -10,14 +10,21 @@ use Rattle.outline.proofs.Gathering.{corner-in-range, CornerKeys, corne
 use Rattle.outline.proofs.offer_corners.Statement.{statement}
 use Rattle.outline.proofs.offer_corners.Tie as tie
 
+abbrev start : tie.After-key-of4 → tie.Start
+start c = c .before .before .before .before .before .before .before .before .before
+
 -- the four keys are those of the corners
-keys : (c : tie.After-key-of4) → let k = c .before .before in let j = k .before .before in let i = j .before .before in CornerKeys (i .before .before .before .args .r) (i .key-of .result) (j .key-of2 .result) (k .key-of3 .result) (c .key-of4 .result)
+keys : (c : tie.After-key-of4) → let k = c .before .before in let j = k .before .before in let i = j .before .before in CornerKeys (start c .args .r) (i .key-of .result) (j .key-of2 .result) (k .key-of3 .result) (c .key-of4 .result)
 keys c =
     let k = c .before .before in
     let j = k .before .before in
     let i = j .before .before in
-    let s = i .before .before .before in
-    corner-keys (s .args .r) (s .pre .2) (s .pre .3) (i .key-of .ensures ∙ ap keyOf (i .before .corner .ensures)) (j .key-of2 .ensures ∙ ap keyOf (j .before .corner2 .ensures)) (k .key-of3 .ensures ∙ ap keyOf (k .before .corner3 .ensures)) (c .key-of4 .ensures ∙ ap keyOf (c .before .corner4 .ensures))
+    let s = start c in
+    corner-keys (s .args .r) (s .pre .2) (s .pre .3)
+    (i .key-of .ensures ∙ ap keyOf (i .before .corner .ensures))
+    (j .key-of2 .ensures ∙ ap keyOf (j .before .corner2 .ensures))
+    (k .key-of3 .ensures ∙ ap keyOf (k .before .corner3 .ensures))
+    (c .key-of4 .ensures ∙ ap keyOf (c .before .corner4 .ensures))
 
 returns : tie.Need-returns
 returns c =
@@ -25,7 +32,7 @@ returns c =
     let m = n .before in
     let k = m .before in
     let h = and-parts _ _ (c .if1 .taken) in
-    corners-missed (keys k) (k .before .before .before .before .before .before .before .before .before .pre .0) (sym (m .is-missed .ensures) ∙ h .0) (sym (n .is-missed2 .ensures) ∙ h .1)
+    corners-missed (keys k) (start k .pre .0) (sym (m .is-missed .ensures) ∙ h .0) (sym (n .is-missed2 .ensures) ∙ h .1)
 
 -- the array is no shorter after the first key
 long : (c : tie.After-offer) → mostKeys ≤ length (c .offer .last .0)

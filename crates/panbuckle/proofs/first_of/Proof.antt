@@ -35,12 +35,13 @@ abbrev μ-loop : tie.MeasureT-loop
 loop-again : tie.Need-loop-again Inv-loop μ-loop
 unfolding firstOf
 loop-again c =
-    let p = c .before .before .before in
+    let q = c .before .before in
+    let p = q .before in
     let t = p .before in
     let l = t .before in
     let s = l .before in
-    let e = l .loop .inv .1 in
-    (search needs, rw (c .pick .ensures, c .before .comes-before .ensures) (weighed (l .loop .found) (c .before .before .is-sought .result) (l .loop .best) (p .point-at .result) _ ∙ rw (c .before .before .is-sought .ensures, p .point-at .ensures) (rw (next (s .args .n) (s .args .a .now) (s .pre) (l .loop .i) (t .loop-test .taken)) at e)))
+    let e = rw (next (s .args .n) (s .args .a .now) (s .pre) (l .loop .i) (t .loop-test .taken)) at (l .loop .inv .1) in
+    (search needs, rw (c .pick .ensures, c .before .comes-before .ensures) (weighed (l .loop .found) (q .is-sought .result) (l .loop .best) (p .point-at .result) _ ∙ rw (q .is-sought .ensures, p .point-at .ensures) e))
 
 returns : tie.Need-returns Inv-loop μ-loop
 unfolding firstOf

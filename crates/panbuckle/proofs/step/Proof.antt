@@ -10,15 +10,17 @@ use Rattle.panbuckle.proofs.step.Tie as tie
 
 take-rectangle-requires : tie.Need-take-rectangle-requires
 take-rectangle-requires c κs =
-    let s = c .before .before .before .before .before in
-    let v = screen-clear (verdict (stepChecks (s .args .work .now) (s .args .count))) (sym (c .before .before .before .check-work .ensures) ∙ c .before .enum-told .given .1) in
+    let w = c .before .before .before in
+    let s = w .before .before in
+    let v = screen-clear (verdict (stepChecks (s .args .work .now) (s .args .count))) (sym (w .check-work .ensures) ∙ c .before .enum-told .given .1) in
     step-accepted (s .args .work .now) (s .args .count) .0 v
 
 returns-2 : tie.Need-returns-2
 unfolding stepAnswer stepWork
 returns-2 c =
-    let s = c .before .before .before .before .before in
-    let v = screen-refused (verdict (stepChecks (s .args .work .now) (s .args .count))) (sym (c .before .before .before .check-work .ensures) ∙ c .before .answer .given .1) in
+    let w = c .before .before .before in
+    let s = w .before .before in
+    let v = screen-refused (verdict (stepChecks (s .args .work .now) (s .args .count))) (sym (w .check-work .ensures) ∙ c .before .answer .given .1) in
     record { answer = rw v; working = rw v }
 
 pub step-spec : {M : Type 1} → statement M

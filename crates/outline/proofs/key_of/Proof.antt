@@ -39,9 +39,4 @@ returns c = rw (rows (c .before .before), columns c)
 pub key-of-spec : {M : Type 1} → statement M
 key-of-spec =
     tie.close
-    (tie.spec
-    (λ c κs. rw (back (c .before .args .p .y) (omega arith)) (ranges (c .before) .1))
-    mul-result
-    (λ c κs. let s = start (c .before) in rw (back (s .args .p .x) (omega arith)) (ranges s .0))
-    add-result
-    returns)
+    (tie.spec (λ c κs. rw (back (c .before .args .p .y) (omega arith)) (ranges (c .before) .1)) mul-result (λ c κs. let s = start (c .before) in rw (back (s .args .p .x) (omega arith)) (ranges s .0)) add-result returns)

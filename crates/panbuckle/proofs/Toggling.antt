@@ -124,7 +124,7 @@ module _ {N : ℕ} {a b : List ℤ} {n : ℕ} {ps : List Point} (k : Keeps N a b
       let qs : List Point = toggle ps p in
       let m : n′ ≡ length qs = e .0 ∙ ap (λ rs. length (toggle rs p)) kept in
       let P : ℕ → Type 0 = λ j. workOf j qs (workOf N ps a) ≡ workOf N qs a in
-      let more : ltb n n′ ≡ true → P n′ = λ t. let l = ltb-true n n′ t in work-again n′ N ps qs a (omega arith) (omega arith) (omega arith) in
-      let fewer : ltb n n′ ≡ false → P n = λ t. let l = ltb-false n n′ t in work-again n N ps qs a (omega arith) (omega arith) (omega arith) in
-      let w : P (most n n′) = cond-case P (ltb n n′) more fewer in
+      let w : P (most n n′) = cond-case P (ltb n n′)
+      (λ t. let l = ltb-true n n′ t in work-again n′ N ps qs a (omega arith) (omega arith) (omega arith))
+      (λ t. let l = ltb-false n n′ t in work-again n N ps qs a (omega arith) (omega arith) (omega arith)) in
       record { all = e .1 ∙ rw (kept, k .all) w; many = m; within = h; fits = k .fits }

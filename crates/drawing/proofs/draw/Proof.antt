@@ -11,17 +11,20 @@ use Rattle.drawing.proofs.Shown.{Made, list-made}
 use Rattle.drawing.proofs.draw.Statement.{statement}
 use Rattle.drawing.proofs.draw.Tie as tie
 
+abbrev start : tie.After-rects → tie.Start
+start c = c .before .before .before
+
 -- the arrays that forward is lent have the program's lengths
-ran : (c : tie.After-forward) → ForwardDone (c .before .before .before .before .args .points .now) (replicate mostWork (pos 0)) (replicate mostList (pos 0)) (c .forward .result) (c .forward .last .1 .0) (c .forward .last .1 .1 .0)
+ran : (c : tie.After-forward) → ForwardDone (start (c .before) .args .points .now) (replicate mostWork (pos 0)) (replicate mostList (pos 0)) (c .forward .result) (c .forward .last .1 .0) (c .forward .last .1 .1 .0)
 ran c = c .forward .ensures
 
-made : (c : tie.After-forward) → Made (c .before .before .before .before .args .points .now) (c .forward .result) (c .forward .last .1 .1 .0)
+made : (c : tie.After-forward) → Made (start (c .before) .args .points .now) (c .forward .result) (c .forward .last .1 .1 .0)
 made c = list-made (ran c) (length-replicate mostWork (pos 0)) (length-replicate mostList (pos 0))
 
 put-picture-requires : tie.Need-put-picture-requires
 put-picture-requires c κs =
     let f = c .before .before .before .before in
-    let s = f .before .before .before .before in
+    let s = start (f .before) in
     let room : length (f .forward .last .1 .1 .0) ≡ mostList = lengths-kept (ran f) .1 ∙ length-replicate mostList (pos 0) in
     (s .pre .0, omega (arith, made f .count), omega (arith, made f .count), s .pre .1)
 

@@ -13,23 +13,27 @@ Inv-loop out₀ at template numbers next₀ used₀ i₀ out next used i = Filli
 abbrev μ-loop : tie.MeasureT-loop
 μ-loop out₀ at template numbers next₀ used₀ i₀ out next used i = length template - i
 
+-- the start, from where the loop begins
+abbrev start : tie.After-shared-slice-known2 Inv-loop μ-loop → tie.Start Inv-loop μ-loop
+start c = c .before .before .before
+
 loop-holds : tie.Need-loop-holds Inv-loop μ-loop
-loop-holds c = let a = c .before .before .before .args in fill-first (a .out .now) (a .at) (a .template .now) (a .numbers .now)
+loop-holds c = let a = start c .args in fill-first (a .out .now) (a .at) (a .template .now) (a .numbers .now)
 
 put-piece-requires : tie.Need-put-piece-requires Inv-loop μ-loop
 put-piece-requires c κs =
     let l = c .before .before .before .before in
-    rw (c .number-at .ensures) (piece-fits (l .loop .inv) (l .before .before .before .before .pre) (omega arith))
+    rw (c .number-at .ensures) (piece-fits (l .loop .inv) (start (l .before) .pre) (omega arith))
 
 loop-again : tie.Need-loop-again Inv-loop μ-loop
 loop-again c =
     let p = c .before .before .before in
     let n = p .before in
     let l = n .before .before .before .before in
-    rw (c .numbers-for .ensures) (fill-next (l .loop .inv) (l .before .before .before .before .pre) (omega arith) (rw (n .number-at .ensures) at (p .put-piece .ensures)))
+    rw (c .numbers-for .ensures) (fill-next (l .loop .inv) (start (l .before) .pre) (omega arith) (rw (n .number-at .ensures) at (p .put-piece .ensures)))
 
 same-length : tie.Need-same-length Inv-loop μ-loop
-same-length c = fill-keeps (c .before .loop .inv) (c .before .before .before .before .before .pre)
+same-length c = fill-keeps (c .before .loop .inv) (start (c .before .before) .pre)
 
 returns : tie.Need-returns Inv-loop μ-loop
 returns c = fill-last (c .before .loop .inv) (omega arith)
@@ -41,8 +45,7 @@ fill-spec =
     Inv-loop
     μ-loop
     loop-holds
-    (λ c. search needs)
-    (λ c κs. search needs)
+    (λ c. search needs) (λ c κs. search needs)
     put-piece-requires
     (λ c κs. search needs)
     (λ c. omega (arith, loop-again c .few))

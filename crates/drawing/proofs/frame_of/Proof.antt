@@ -2,7 +2,9 @@
 use Prim.Native.Nat.{_-_, _≤_}
 use native.Mathlib.Omega.{arith}
 use mathlib.Core.Path.{_≡_, sym, _∙_}
+use mathlib.Core.List.{List}
 use lib.ListN.{drop, drop-of-length-le}
+use lib.IntN.{ℤ}
 use borrow.Author.Needs.{needs}
 use Rattle.plane.specs.Words.{pointsOf}
 use Rattle.plane.proofs.Arrays.{length-points}
@@ -18,6 +20,10 @@ Inv-loop points n f₀ i₀ f i = (i ≤ n) × (widenedBy f (drop i (pointsOf po
 abbrev μ-loop : tie.MeasureT-loop
 μ-loop points n f₀ i₀ f i = n - i
 
+-- the array of points, from where the loop begins
+abbrev array : tie.After-frame-about Inv-loop μ-loop → List ℤ
+array c = c .before .before .before .args .points .now
+
 returns : tie.Need-returns Inv-loop μ-loop
 returns c =
     let a = c .before .before .args .points .now in
@@ -25,20 +31,19 @@ returns c =
 
 loop-holds : tie.Need-loop-holds Inv-loop μ-loop
 loop-holds c =
-    let s = c .before .before .before in
-    (omega arith, rw (c .frame-about .ensures .0, c .before .point-at .ensures) (frame-first (pointsOf (s .args .points .now)) (omega (arith, length-points (s .args .points .now)))), c .frame-about .ensures .1)
+    (omega arith, rw (c .frame-about .ensures .0, c .before .point-at .ensures) (frame-first (pointsOf (array c)) (omega (arith, length-points (array c)))), c .frame-about .ensures .1)
 
 loop-again : tie.Need-loop-again Inv-loop μ-loop
 loop-again c =
     let l = c .before .before .before in
-    let a = l .before .before .before .before .args .points .now in
+    let a = array (l .before) in
     (omega arith, rw (c .widen .ensures .0, c .before .point-at2 .ensures) (sym (frame-next (l .loop .f) (pointsOf a) (l .loop .i) (omega (arith, length-points a))) ∙ l .loop .inv .1), c .widen .ensures .1)
 
 returns-2 : tie.Need-returns-2 Inv-loop μ-loop
 unfolding widenedBy
 returns-2 c =
     let l = c .before in
-    let a = l .before .before .before .before .args .points .now in
+    let a = array (l .before) in
     (rw (drop-of-length-le (pointsOf a) {i = l .loop .i} (omega (arith, length-points a))) at (l .loop .inv .1), l .loop .inv .2)
 
 pub frame-of-spec : {M : Type 1} → statement M
@@ -49,11 +54,9 @@ frame-of-spec =
     μ-loop
     (λ c κs. search needs)
     returns
-    (λ c κs. search needs)
-    (λ c κs. search needs)
+    (λ c κs. search needs) (λ c κs. search needs)
     loop-holds
-    (λ c κs. search needs)
-    (λ c κs. search needs)
+    (λ c κs. search needs) (λ c κs. search needs)
     (λ c. omega arith)
     (λ c. omega arith)
     loop-again

@@ -127,7 +127,5 @@ put-picture-spec =
     put-points-requires
     put-offender-requires
     put-answer-requires
-    (λ c. search needs)
-    (λ c κs. search needs)
-    (λ c. search needs)
+    (λ c. search needs) (λ c κs. search needs) (λ c. search needs)
     returns)

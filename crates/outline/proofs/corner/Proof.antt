@@ -39,20 +39,18 @@ unfolding rectInRange
 ranges s = let r = s .args .r in and-four (inRange (r .x)) (inRange (r .y)) (inRange (right r)) (inRange (top r)) (s .pre)
 
 -- the sum across
-across : (c : tie.After-struct-told3) → let t = c .before .before .before in let s = t .before .args in Sum (s .right) (s .r .x) (s .r .w) (t .if1 .w)
-across c =
-    let t = c .before .before .before in
+across : (t : tie.Joined1) → let s = t .before .args in Sum (s .right) (s .r .x) (s .r .w) (t .if1 .w)
+across t =
     let s = t .before .args in
     let h = ranges (t .before) in
     sum (s .right) (s .r .x) (s .r .w) (t .if1 .w) (h .0) (h .2) (⊎-elim (λ w. rw (w .0 .taken, w .2) (back (s .r .w) (omega arith))) (λ w. rw (w .0 .left, w .1)) (t .if1 .came))
 
 -- the sum upwards
-upward : (c : tie.After-struct-told4) → let t = c .before .before .before .before in let s = t .before .before .args in Sum (s .top) (s .r .y) (s .r .h) (t .if2 .h)
-upward c =
-    let t = c .before .before .before .before in
+upward : (t : tie.Joined2) → let s = t .before .before .args in Sum (s .top) (s .r .y) (s .r .h) (t .if2 .h)
+upward t =
     let s = t .before .before .args in
     let h = ranges (t .before .before) in
     sum (s .top) (s .r .y) (s .r .h) (t .if2 .h) (h .1) (h .3) (⊎-elim (λ w. rw (w .0 .taken, w .2) (back (s .r .h) (omega arith))) (λ w. rw (w .0 .left, w .1)) (t .if2 .came))
 
 pub corner-spec : {M : Type 1} → statement M
-corner-spec = tie.close (tie.spec (λ c. across c .fits) (λ c. upward c .fits) (λ c i. record { x = across (c .before .before) .is i; y = upward c .is i }))
+corner-spec = tie.close (tie.spec (λ c. across (c .before .before .before) .fits) (λ c. upward (c .before .before .before .before) .fits) (λ c i. let t = c .before .before .before .before in record { x = across (t .before) .is i; y = upward t .is i }))

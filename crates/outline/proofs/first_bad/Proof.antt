@@ -21,19 +21,23 @@ abbrev μ-loop : tie.MeasureT-loop
 loop-holds : tie.Need-loop-holds Inv-loop μ-loop
 loop-holds c = (search needs, λ j h. absurd (omega arith))
 
+-- the loop's place in a turn
+abbrev loop-at : tie.After-is-bad Inv-loop μ-loop → tie.At-loop Inv-loop μ-loop
+loop-at c = c .before .before .before
+
 -- the test of this turn is whether the rectangle at place i offends
-tested : (c : tie.After-is-bad Inv-loop μ-loop) → let l = c .before .before .before in let r = l .before .args in rectOffends (r .number) (rectAt (rectsOf (r .rects .now)) (l .loop .i)) ≡ c .is-bad .result
-tested c = sym (c .is-bad .ensures ∙ ap (rectOffends (c .before .before .before .before .args .number)) (c .before .rect-at .ensures))
+tested : (c : tie.After-is-bad Inv-loop μ-loop) → let l = loop-at c in let r = l .before .args in rectOffends (r .number) (rectAt (rectsOf (r .rects .now)) (l .loop .i)) ≡ c .is-bad .result
+tested c = sym (c .is-bad .ensures ∙ ap (rectOffends (loop-at c .before .args .number)) (c .before .rect-at .ensures))
 
 returns : tie.Need-returns Inv-loop μ-loop
 unfolding placeGiven
 returns c =
-    let l = c .before .before .before .before in
+    let l = loop-at (c .before) in
     found (length-rects (l .before .args .rects .now)) (l .loop .inv .1) (search needs) (tested (c .before) ∙ c .if1 .taken)
 
 loop-again : tie.Need-loop-again Inv-loop μ-loop
 loop-again c =
-    let l = c .before .before .before .before in
+    let l = loop-at (c .before) in
     (search needs, none-below-next (l .loop .inv .1) (tested (c .before) ∙ c .if1 .left))
 
 returns-2 : tie.Need-returns-2 Inv-loop μ-loop

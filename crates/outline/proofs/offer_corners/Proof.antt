@@ -59,8 +59,7 @@ offer-corners-spec =
     (λ c κs. search (needs, corner-in-range))
     (λ c κs. search needs)
     (λ c κs. search (needs, corner-in-range))
-    (λ c κs. search needs)
-    (λ c κs. search needs)
+    (λ c κs. search needs) (λ c κs. search needs)
     returns
     (λ c κs. search needs)
     (λ c κs. let m = c .before .before .before in (m .offer .ensures .few, long m))

@@ -59,8 +59,7 @@ outlined-spec =
     (tie.spec
     (λ c. search needs)
     list-points-requires
-    (λ c κs. search needs)
-    (λ c. search needs)
+    (λ c κs. search needs) (λ c. search needs)
     returns
     (λ c. sym (ready (c .before) .0))
     list-points-requires-2

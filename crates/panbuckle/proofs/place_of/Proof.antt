@@ -21,8 +21,12 @@ abbrev μ-loop : tie.MeasureT-loop
 loop-holds : tie.Need-loop-holds Inv-loop μ-loop
 loop-holds c = (search needs, λ j h. absurd (omega arith))
 
+-- the loop's place in a turn
+abbrev loop-at : tie.After-same-point Inv-loop μ-loop → tie.At-loop Inv-loop μ-loop
+loop-at c = c .before .before .before
+
 -- the test of this turn is whether p stands at place i
-tested : (c : tie.After-same-point Inv-loop μ-loop) → let l = c .before .before .before in let r = l .before .args in same (r .p) (pointAt (held (r .n) (r .a .now)) (l .loop .i)) ≡ c .same-point .result
+tested : (c : tie.After-same-point Inv-loop μ-loop) → let l = loop-at c in let r = l .before .args in same (r .p) (pointAt (held (r .n) (r .a .now)) (l .loop .i)) ≡ c .same-point .result
 tested c =
     let t = c .before .before in
     let s = t .before .before in
@@ -30,12 +34,12 @@ tested c =
 
 returns : tie.Need-returns Inv-loop μ-loop
 returns c =
-    let l = c .before .before .before .before in
+    let l = loop-at (c .before) in
     rw place-first (found (held-length _ _ (l .before .pre)) (l .loop .inv .1) (search needs) (tested (c .before) ∙ c .if1 .taken))
 
 loop-again : tie.Need-loop-again Inv-loop μ-loop
 loop-again c =
-    let l = c .before .before .before .before in
+    let l = loop-at (c .before) in
     (search needs, none-below-next (l .loop .inv .1) (tested (c .before) ∙ c .if1 .left))
 
 returns-2 : tie.Need-returns-2 Inv-loop μ-loop

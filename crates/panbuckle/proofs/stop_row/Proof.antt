@@ -20,16 +20,20 @@ abbrev μ-loop : tie.MeasureT-loop
 loop-holds : tie.Need-loop-holds Inv-loop μ-loop
 loop-holds c = (omega arith, omega arith, refl, even-first (c .before .pre))
 
+-- the loop's place in a turn
+abbrev loop-at : tie.After-rows Inv-loop μ-loop → tie.At-loop Inv-loop μ-loop
+loop-at c = c .before .before .before .before .before .before
+
 odd-rows-requires : tie.Need-odd-rows-requires Inv-loop μ-loop
 odd-rows-requires c κs =
-    let l = c .before .before .before .before .before .before in
+    let l = loop-at c in
     let b = l .before .before .pre in
     (b .ready .working, l .loop .inv .0, omega arith, rw (back (l .loop .low .y) (omega arith), back (l .before .first-of .result .y) (omega arith)) at (c .before .if1 .taken))
 
 returns : tie.Need-returns Inv-loop μ-loop
 returns c =
     let o = c .before .before .before .before .before in
-    let l = o .before .before .before .before .before .before .before in
+    let l = loop-at (o .before) in
     let b = l .before .before .pre in
     odd-stops b (l .before .first-of .ensures) _ _ (l .loop .inv .3) (o .odd-rows .ensures .1 .1) (o .odd-rows .ensures .1 .0) (o .odd-rows .ensures .0) (search needs) (c .first-of2 .ensures)
 
@@ -43,7 +47,7 @@ loop-less c =
 loop-again : tie.Need-loop-again Inv-loop μ-loop
 loop-again c =
     let o = c .before .before .before .before .before in
-    let l = o .before .before .before .before .before .before .before in
+    let l = loop-at (o .before) in
     let none : o .odd-rows .result .count ≡ 0 = omega arith in
     (c .doubled .ensures .0, c .doubled .ensures .1, search needs, even-on (l .loop .inv .3) (o .odd-rows .ensures .1 .1) (rw none))
 

@@ -29,25 +29,29 @@ returns c =
     let r = t .before .before .args in
     rw (c .rows-below .ensures) (search needs, rw (toggled-held (r .odd .count) (r .rows .now) (r .p) (t .toggled .ensures)) whole)
 
+-- where the row is toggled, from where the highest is to be found
+abbrev toggled-at : tie.After-highest-of-arg → tie.After-toggled
+toggled-at c = c .before .before .before
+
 highest-of-requires : tie.Need-highest-of-requires
-highest-of-requires c κs = (search needs, omega (arith, few (c .before .before .before)))
+highest-of-requires c κs = (search needs, omega (arith, few (toggled-at c)))
 
 -- without the highest there is one row less
-one-less : (c : tie.After-highest-of) → let t = c .before .before .before .before .toggled in length (toggle (held (t .result) (t .last .0)) (c .highest-of .result)) + 1 ≡ t .result
+one-less : (c : tie.After-highest-of) → let t = toggled-at (c .before) .toggled in length (toggle (held (t .result) (t .last .0)) (c .highest-of .result)) + 1 ≡ t .result
 one-less c =
-    let t = c .before .before .before .before in
+    let t = toggled-at (c .before) in
     without-highest (c .highest-of .ensures) ∙ held-length (t .toggled .result) (t .toggled .last .0) (omega (arith, few t))
 
 toggled-requires-2 : tie.Need-toggled-requires-2
 toggled-requires-2 c κs =
-    let h = few (c .before .before .before .before .before) in
+    let h = few (toggled-at (c .before .before)) in
     (omega arith, omega (arith, one-less (c .before)))
 
 returns-2 : tie.Need-returns-2
 returns-2 c =
     let u = c .before .before in
     let l = u .before .before in
-    let t = l .before .before .before .before in
+    let t = toggled-at (l .before) in
     let r = t .before .before .args in
     let all = toggled-held (r .odd .count) (r .rows .now) (r .p) (t .toggled .ensures) in
     let rest = toggled-held (t .toggled .result) (t .toggled .last .0) (l .highest-of .result) (u .toggled2 .ensures) in

@@ -81,8 +81,7 @@ write-points-spec =
     Inv-loop
     μ-loop
     loop-holds
-    (λ c κs. search needs)
-    (λ c. search needs)
+    (λ c κs. search needs) (λ c. search needs)
     (λ c. omega (arith, room c))
     (λ c. omega (arith, room c))
     (λ c. omega (arith, room c))

@@ -32,6 +32,5 @@ print-refusal-spec =
     (λ c κs. short (c .before .before))
     (λ c. let d = c .before .before in wrote-within (d .put-refusal .ensures) (omega (arith, short (d .before .before .before))))
     (λ c. let h = line (c .before .before .before) in h .0 ∙ sym (ap length (h .1)))
-    (λ c κs. search needs)
-    (λ c. search needs)
+    (λ c κs. search needs) (λ c. search needs)
     returns)

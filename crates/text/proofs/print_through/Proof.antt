@@ -20,11 +20,11 @@ abbrev rects : tie.Start → List ℕ
 rects s = rectLines (take (s .args .sums .count) (rectsOf (s .args .rects .now)))
 
 -- the places on the way: the start, and where the sums are put
-abbrev start : tie.After-put-sums → tie.Start
-start c = c .before .before .before .before
+abbrev start : tie.After-put-sums-arg → tie.Start
+start c = c .before .before .before
 
-abbrev sums-put : tie.After-put-rects → tie.After-put-sums
-sums-put c = c .before .before .before .before
+abbrev sums-put : tie.After-put-rects-arg → tie.After-put-sums
+sums-put c = c .before .before .before
 
 -- both have room
 fits : (s : tie.Start) → 0 + length (sums s ++ rects s) ≤ length (s .args .lines .now)
@@ -33,13 +33,14 @@ fits s = omega (arith, s .pre .1)
 first-fits : (s : tie.Start) → 0 + length (sums s) ≤ length (s .args .lines .now)
 first-fits s = room-first 0 _ (sums s) (rects s) (fits s)
 
-rest-fits : (c : tie.After-put-sums) → c .put-sums .result + length (rects (start c)) ≤ length (c .put-sums .last .0)
-rest-fits c = room-then (rects (start c)) (c .put-sums .ensures) (fits (start c))
+rest-fits : (c : tie.After-put-sums) → c .put-sums .result + length (rects (start (c .before))) ≤ length (c .put-sums .last .0)
+rest-fits c = let s = start (c .before) in room-then (rects s) (c .put-sums .ensures) (fits s)
 
 -- what is put are both
-lines : (c : tie.After-put-rects) → let s = start (sums-put c) in (c .put-rects .result ≡ length (sums s ++ rects s)) × (take (c .put-rects .result) (c .put-rects .last .0) ≡ sums s ++ rects s)
+lines : (c : tie.After-put-rects) → let s = start (sums-put (c .before) .before) in (c .put-rects .result ≡ length (sums s ++ rects s)) × (take (c .put-rects .result) (c .put-rects .last .0) ≡ sums s ++ rects s)
 lines c =
-    let w = wrote-both (sums-put c .put-sums .ensures) (c .put-rects .ensures) (fits (start (sums-put c))) in
+    let d = sums-put (c .before) in
+    let w = wrote-both (d .put-sums .ensures) (c .put-rects .ensures) (fits (start (d .before))) in
     (omega (arith, w .place), wrote-front w)
 
 returns : tie.Need-returns
@@ -52,11 +53,9 @@ pub print-through-spec : {M : Type 1} → statement M
 print-through-spec =
     tie.close
     (tie.spec
-    (λ c κs. omega (arith, first-fits (c .before .before .before)))
-    (λ c κs. let d = c .before .before .before in (start d .pre .0, rest-fits d))
-    (λ c. let d = c .before .before .before in wrote-within (d .put-rects .ensures) (rest-fits (sums-put d)))
+    (λ c κs. omega (arith, first-fits (start c)))
+    (λ c κs. (start (sums-put c .before) .pre .0, rest-fits (sums-put c)))
+    (λ c. let d = c .before .before .before in wrote-within (d .put-rects .ensures) (rest-fits (sums-put (d .before))))
     (λ c. let h = lines (c .before .before .before .before) in h .0 ∙ sym (ap length (h .1)))
-    (λ c κs. search needs)
-    (λ c. search needs)
-    (λ c. search needs)
+    (λ c κs. search needs) (λ c. search needs) (λ c. search needs)
     returns)

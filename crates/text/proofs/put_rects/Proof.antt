@@ -74,14 +74,4 @@ returns c = let e : c .before .loop .i ≡ c .before .before .before .args .n = 
 pub put-rects-spec : {M : Type 1} → statement M
 put-rects-spec =
     tie.close
-    (tie.spec
-    Inv-loop
-    μ-loop
-    loop-holds
-    (λ c κs. search needs)
-    put-rect-requires
-    (λ c. omega arith)
-    (λ c. omega arith)
-    loop-again
-    same-length
-    returns)
+    (tie.spec Inv-loop μ-loop loop-holds (λ c κs. search needs) put-rect-requires (λ c. omega arith) (λ c. omega arith) loop-again same-length returns)

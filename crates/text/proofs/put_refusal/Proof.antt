@@ -46,12 +46,4 @@ returns c =
 pub put-refusal-spec : {M : Type 1} → statement M
 put-refusal-spec =
     tie.close
-    (tie.spec
-    (λ c. search needs)
-    put-worded-requires
-    (λ c. search needs)
-    put-worded-requires-2
-    (λ c. search needs)
-    (λ c κs. search needs)
-    (λ c. search needs)
-    returns)
+    (tie.spec (λ c. search needs) put-worded-requires (λ c. search needs) put-worded-requires-2 (λ c. search needs) (λ c κs. search needs) (λ c. search needs) returns)

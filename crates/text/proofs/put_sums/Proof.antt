@@ -30,53 +30,45 @@ abbrev from-area : tie.Start → List ℕ
 from-area s = area s ++ from-edge s
 
 -- the places on the way: the start, and where the count is put
-abbrev start : tie.After-put-worded → tie.Start
-start c = c .before .before .before .before
+abbrev start : tie.After-put-worded-arg2 → tie.Start
+start c = c .before .before .before
 
-abbrev count-put : tie.After-put-worded2 → tie.After-put-worded
-count-put c = c .before .before .before .before .before
+abbrev count-put : tie.After-put-worded-arg4 → tie.After-put-worded
+count-put c = c .before .before .before .before
 
 -- there is room for what is left
 room₁ : (s : tie.Start) → 0 + length (count s ++ from-area s) ≤ length (s .args .out .now)
 room₁ s = omega (arith, ap length (sums-pieces (sumsTold (s .args .sums))), s .pre)
 
-room₂ : (c : tie.After-put-worded) → c .put-worded .result + length (from-area (start c)) ≤ length (c .put-worded .last .0)
-room₂ c = room-then (from-area (start c)) (c .put-worded .ensures) (room₁ (start c))
+room₂ : (c : tie.After-put-worded) → c .put-worded .result + length (from-area (start (c .before))) ≤ length (c .put-worded .last .0)
+room₂ c = let s = start (c .before) in room-then (from-area s) (c .put-worded .ensures) (room₁ s)
 
 put-worded-requires : tie.Need-put-worded-requires
-put-worded-requires c κs = let s = c .before .before .before in room-first 0 _ (count s) (from-area s) (room₁ s)
+put-worded-requires c κs = let s = start c in room-first 0 _ (count s) (from-area s) (room₁ s)
 
 put-worded-requires-2 : tie.Need-put-worded-requires-2
 put-worded-requires-2 c κs =
-    let d = c .before .before .before .before in
-    room-first _ _ (area (start d)) (from-edge (start d)) (room₂ d)
+    let s = start (count-put c .before) in
+    room-first _ _ (area s) (from-edge s) (room₂ (count-put c))
 
 put-worded-requires-3 : tie.Need-put-worded-requires-3
 put-worded-requires-3 c κs =
     let d = c .before .before .before .before in
-    let s = start (count-put d) in
-    room-first _ _ (edge s) (ascii "\n") (room-then (from-edge s) (d .put-worded2 .ensures) (room₂ (count-put d)))
+    let n = count-put (d .before) in
+    let s = start (n .before) in
+    room-first _ _ (edge s) (ascii "\n") (room-then (from-edge s) (d .put-worded2 .ensures) (room₂ n))
 
 returns : tie.Need-returns
 returns c =
     let w = c .before .before in
     let e = w .before .before .before .before .before in
     let a = e .before .before .before .before .before in
-    let n = count-put a in
+    let n = count-put (a .before) in
+    let s = start (n .before) in
     let from-area-put = put-third (a .put-worded2 .ensures) (e .put-worded3 .ensures) (w .put-bytes .ensures) (room₂ n) in
-    rw (sums-pieces (sumsTold (start n .args .sums))) (wrote-both (n .put-worded .ensures) from-area-put (room₁ (start n)))
+    rw (sums-pieces (sumsTold (s .args .sums))) (wrote-both (n .put-worded .ensures) from-area-put (room₁ s))
 
 pub put-sums-spec : {M : Type 1} → statement M
 put-sums-spec =
     tie.close
-    (tie.spec
-    (λ c. search needs)
-    put-worded-requires
-    (λ c. search needs)
-    put-worded-requires-2
-    (λ c. search needs)
-    put-worded-requires-3
-    (λ c. search needs)
-    (λ c κs. search needs)
-    (λ c. search needs)
-    returns)
+    (tie.spec (λ c. search needs) put-worded-requires (λ c. search needs) put-worded-requires-2 (λ c. search needs) put-worded-requires-3 (λ c. search needs) (λ c κs. search needs) (λ c. search needs) returns)

@@ -91,10 +91,7 @@ pub say-spec : {M : Type 1} → statement M
 say-spec =
     tie.close
     (tie.spec
-    (λ c κs. search needs)
-    (λ c κs. search needs)
-    (λ c κs. search needs)
-    (λ c κs. search needs)
+    (λ c κs. search needs) (λ c κs. search needs) (λ c κs. search needs) (λ c κs. search needs)
     say-fault-requires
     (λ c. search needs)
     returns

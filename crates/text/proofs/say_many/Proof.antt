@@ -18,12 +18,4 @@ returns-2 c = let t = c .before .before in rw (le-ltb 65_536 _ (t .before .befor
 pub say-many-spec : {M : Type 1} → statement M
 say-many-spec =
     tie.close
-    (tie.spec
-    (λ c. search needs)
-    (λ c κs. search needs)
-    (λ c. search needs)
-    returns
-    (λ c. search needs)
-    (λ c κs. search needs)
-    (λ c. search needs)
-    returns-2)
+    (tie.spec (λ c. search needs) (λ c κs. search needs) (λ c. search needs) returns (λ c. search needs) (λ c κs. search needs) (λ c. search needs) returns-2)

@@ -88,14 +88,4 @@ returns c =
 pub say-point-spec : {M : Type 1} → statement M
 say-point-spec =
     tie.close
-    (tie.spec
-    (λ c. search needs)
-    put-worded-requires
-    (λ c. search needs)
-    (λ c κs. search needs)
-    (λ c. search needs)
-    put-field-requires
-    (λ c. search needs)
-    put-field-requires-2
-    (λ c. search needs)
-    returns)
+    (tie.spec (λ c. search needs) put-worded-requires (λ c. search needs) (λ c κs. search needs) (λ c. search needs) put-field-requires (λ c. search needs) put-field-requires-2 (λ c. search needs) returns)

@@ -14,8 +14,8 @@ use Rattle.plane.specs.Lists.{odd}
 use Rattle.plane.proofs.Bools.{xor-false, false-xor, xor-assoc, xor-back}
 use Rattle.plane.proofs.Parity.{odd-none-of, odd-cons, odd-last-added}
 use Rattle.plane.proofs.Places.{take-last}
-use Rattle.sorting.specs.Sorted.{sorted}
-use Rattle.sorting.proofs.Sorted.{least-first, sorted-first}
+use Rattle.plane.specs.Sorted.{sorted}
+use Rattle.plane.proofs.Sorted.{least-first, sorted-first}
 use Rattle.outline.specs.Inner.{endsWith, climbs, OddOnes}
 use Rattle.outline.proofs.Climbs.{ends-with-last, ends-with-some, climbs-start, climbs-end}
 

@@ -10,7 +10,7 @@ ghost use mathlib.Core.Option.{Option·getD};
 ghost use lib.ListN.{length, take};
 ghost use Prim.Native.Nat.{_+_, _*_, _/_, _<_, _≤_};
 ghost use Rattle.plane.specs.Words.{rectInRange, flat, cornersOf, rectsOf, flatPoints, rectSize};
-ghost use Rattle.sorting.specs.Sorted.{sorted};
+ghost use Rattle.plane.specs.Sorted.{sorted};
 ghost use Rattle.rule.specs.Back.{backList};
 ghost use Rattle.rule.specs.Answers.{written, BackwardAccepted, BackwardDone};
 ghost use Rattle.rule.specs.Checks.{accepted, placeGiven};

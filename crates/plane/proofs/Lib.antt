@@ -12,4 +12,6 @@ pub mod Grid
 pub mod Arrays
 pub mod Places
 pub mod Keys
+pub mod Sorted
+pub mod Swaps
 pub mod Outcomes

@@ -1,3 +1,5 @@
 pub mod Lists
 pub mod Words
 pub mod Keys
+pub mod Sorted
+pub mod Swaps

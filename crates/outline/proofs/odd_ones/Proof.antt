@@ -6,8 +6,8 @@ use mathlib.Core.List.{List, _++_}
 use lib.ListN.{take}
 use lib.Seq.{take-at, length-take-le}
 use borrow.Author.Needs.{needs}
-use Rattle.sorting.specs.Sorted.{sorted}
-use Rattle.sorting.proofs.Sorted.{least-first, sorted-parity, sorted-length, sorted-twice}
+use Rattle.plane.specs.Sorted.{sorted}
+use Rattle.plane.proofs.Sorted.{least-first, sorted-parity, sorted-length, sorted-twice}
 use Rattle.outline.proofs.odd_ones.Statement.{statement}
 use Rattle.outline.proofs.odd_ones.Tie as tie
 

@@ -1,11 +1,10 @@
 -- `outline::put_points` meets its contract. The invariant: the points of the first i keys are written.
-use Prim.Native.Nat.{ℕ, zero, suc, _+_, _*_, _-_, _<_, _≤_}
+use Prim.Native.Nat.{ℕ, zero, suc, _+_, _-_, _<_, _≤_}
 use native.Mathlib.Numerals.{add-one}
 use native.Mathlib.Omega.{arith}
 use mathlib.Core.Path.{_≡_, refl, ap}
 use mathlib.Core.List.{List, [], _∷_, _++_}
-use lib.ListN.{length, getD, take, set, length-set}
-use lib.IntN.{ℤ}
+use lib.ListN.{length, getD, take, length-set}
 use borrow.Author.Needs.{needs}
 use Rattle.plane.specs.declared.Point.{Point}
 use Rattle.plane.specs.Words.{flatPoints}
@@ -32,12 +31,6 @@ next-first [] i h = absurd (omega arith)
 next-first (k ∷ ks) zero h = refl
 next-first (k ∷ ks) (suc i) h = ap (λ (l : List Point). pointOf k ∷ l) (next-first ks i (omega arith))
 
--- the next point put after those written is one more written
-put-next : (ks : List ℕ) (i : ℕ) (out : List ℤ) {p : Point} → i < length ks → 2 * i + 1 < length out → p ≡ pointOf (getD ks i 0) → set (set (written accepted (flatPoints (pointsOfKeys (take i ks))) out) (2 * i) (p .x)) (2 * i + 1) (p .y) ≡ written accepted (flatPoints (pointsOfKeys (take (i + 1) ks))) out
-put-next ks i out {p} h room e =
-    let next : pointsOfKeys (take (i + 1) ks) ≡ pointsOfKeys (take i ks) ++ (p ∷ []) = rw (add-one, e) (next-first ks i h) in
-    rw next (written-point (pointsOfKeys (take i ks)) p out i (length-first ks i (omega arith)) room)
-
 abbrev Inv-loop : tie.InvT-loop
 Inv-loop keys n points₀ i₀ points i = (i ≤ n) × (length points ≡ length points₀) × (points ≡ written accepted (flatPoints (pointsOfKeys (take i keys))) points₀)
 
@@ -53,10 +46,13 @@ loop-again c =
     let t = c .before .before in
     let l = t .before .before .before in
     let s = l .before .before in
-    let p = t .point-of .result in (
+    let p = t .point-of .result in
+    let ks = s .args .keys .now in
+    let i = l .loop .i in
+    let next : pointsOfKeys (take (i + 1) ks) ≡ pointsOfKeys (take i ks) ++ (p ∷ []) = rw (add-one, t .point-of .ensures) (next-first ks i (omega arith)) in (
       search needs,
       simp length-set (l .loop .inv .1),
-      rw (back (p .x) (omega arith), back (p .y) (omega arith), l .loop .inv .2) (put-next (s .args .keys .now) (l .loop .i) (s .args .points .now) (omega arith) (omega arith) (t .point-of .ensures)),
+      rw (back (p .x) (omega arith), back (p .y) (omega arith), l .loop .inv .2, next) (written-point (pointsOfKeys (take i ks)) p (s .args .points .now) i (length-first ks i (omega arith)) (omega arith)),
     )
 
 returns : tie.Need-returns Inv-loop μ-loop

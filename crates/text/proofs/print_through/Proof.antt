@@ -1,14 +1,14 @@
 -- `text::print_through` meets its contract: what is put are the bytes of the lines.
 use Prim.Native.Nat.{ℕ, _+_, _≤_}
 use native.Mathlib.Omega.{arith}
-use mathlib.Core.Path.{_≡_, ap, _∙_, sym}
 use mathlib.Core.List.{List, _++_}
 use lib.ListN.{length, take}
 use borrow.Author.Needs.{needs}
 use Rattle.plane.specs.Words.{rectsOf}
 use Rattle.rule.specs.Answers.{sumsTold}
+use Rattle.numerals.specs.Inner.{Wrote}
 use Rattle.text.specs.Program.{sumsLine, rectLines}
-use Rattle.numerals.proofs.Writing.{wrote-front, wrote-within, wrote-both, room-first, room-then}
+use Rattle.numerals.proofs.Writing.{wrote-front, wrote-within, wrote-many, wrote-both, room-first, room-then}
 use Rattle.text.proofs.print_through.Statement.{statement}
 use Rattle.text.proofs.print_through.Tie as tie
 
@@ -37,17 +37,14 @@ rest-fits : (c : tie.After-put-sums) → c .put-sums .result + length (rects (st
 rest-fits c = let s = start (c .before) in room-then (rects s) (c .put-sums .ensures) (fits s)
 
 -- what is put are both
-lines : (c : tie.After-put-rects) → let s = start (sums-put (c .before) .before) in (c .put-rects .result ≡ length (sums s ++ rects s)) × (take (c .put-rects .result) (c .put-rects .last .0) ≡ sums s ++ rects s)
-lines c =
-    let d = sums-put (c .before) in
-    let w = wrote-both (d .put-sums .ensures) (c .put-rects .ensures) (fits (start (d .before))) in
-    (omega (arith, w .place), wrote-front w)
+lines : (c : tie.After-put-rects) → let s = start (sums-put (c .before) .before) in Wrote (s .args .lines .now) 0 (sums s ++ rects s) (c .put-rects .result) (c .put-rects .last .0)
+lines c = let d = sums-put (c .before) in wrote-both (d .put-sums .ensures) (c .put-rects .ensures) (fits (start (d .before)))
 
 returns : tie.Need-returns
 returns c =
     let p = c .before .before in
-    let h = lines (p .before .before .before .before .before) in
-    (h .0, rw (h .1) at (p .put-bytes .ensures .output))
+    let w = lines (p .before .before .before .before .before) in
+    (omega (arith, w .place), rw (wrote-front w) at (p .put-bytes .ensures .output))
 
 pub print-through-spec : {M : Type 1} → statement M
 print-through-spec =
@@ -56,6 +53,6 @@ print-through-spec =
     (λ c κs. omega (arith, first-fits (start c)))
     (λ c κs. (start (sums-put c .before) .pre .0, rest-fits (sums-put c)))
     (λ c. let d = c .before .before .before in wrote-within (d .put-rects .ensures) (rest-fits (sums-put (d .before))))
-    (λ c. let h = lines (c .before .before .before .before) in h .0 ∙ sym (ap length (h .1)))
+    (λ c. wrote-many (lines (c .before .before .before .before)))
     (λ c κs. search needs) (λ c. search needs) (λ c. search needs)
     returns)

@@ -35,6 +35,4 @@ returns c =
     rw (made f .list, made f .sums) at (p .put-picture .ensures)
 
 pub draw-spec : {M : Type 1} → statement M
-draw-spec =
-    tie.close
-    (tie.spec (λ c. search needs) (λ c. search needs) (λ c κs. search needs) (λ c. search needs) put-picture-requires (λ c. search needs) returns)
+draw-spec = tie.close (tie.spec (λ c. search needs) (λ c. search needs) (λ c κs. search needs) (λ c. search needs) put-picture-requires (λ c. search needs) returns)

@@ -20,6 +20,4 @@ returns-2 c =
     rw (ne-eqb (t .before .before .before .args .r .answer) 0 (t .if1 .left)) (p .put-refusal .ensures)
 
 pub put-answer-spec : {M : Type 1} → statement M
-put-answer-spec =
-    tie.close
-    (tie.spec (λ c κs. search needs) (λ c. search needs) returns (λ c κs. search needs) (λ c. search needs) returns-2)
+put-answer-spec = tie.close (tie.spec (λ c κs. search needs) (λ c. search needs) returns (λ c κs. search needs) (λ c. search needs) returns-2)

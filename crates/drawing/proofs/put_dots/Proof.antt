@@ -52,6 +52,4 @@ returns c =
     rw (length-points a, sym (q .radius-for .ensures .0)) (rw (e, take-length (pointsOf a)) at (l .loop .inv .3))
 
 pub put-dots-spec : {M : Type 1} → statement M
-put-dots-spec =
-    tie.close
-    (tie.spec Inv-loop μ-loop (λ c κs. search needs) loop-holds (λ c κs. omega arith) put-dot-requires (λ c. omega arith) (λ c. omega arith) loop-again (λ c. c .before .loop .inv .2) returns)
+put-dots-spec = tie.close (tie.spec Inv-loop μ-loop (λ c κs. search needs) loop-holds (λ c κs. omega arith) put-dot-requires (λ c. omega arith) (λ c. omega arith) loop-again (λ c. c .before .loop .inv .2) returns)

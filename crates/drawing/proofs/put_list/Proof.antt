@@ -40,6 +40,4 @@ returns c =
     put-third (h .put-head .ensures) (b .put-blocks .ensures) (p .put-bytes .ensures) (all-fits (start (h .before)))
 
 pub put-list-spec : {M : Type 1} → statement M
-put-list-spec =
-    tie.close
-    (tie.spec (λ c κs. (c .before .before .pre .0, omega arith)) put-blocks-requires (λ c. search needs) (λ c κs. search needs) (λ c. search needs) returns)
+put-list-spec = tie.close (tie.spec (λ c κs. (c .before .before .pre .0, omega arith)) put-blocks-requires (λ c. search needs) (λ c κs. search needs) (λ c. search needs) returns)

@@ -27,5 +27,4 @@ returns-2 c =
     rw e (wrote-nothing (a .out .now) (a .at))
 
 pub put-offender-spec : {M : Type 1} → statement M
-put-offender-spec =
-    tie.close (tie.spec (λ c κs. search needs) (λ c κs. search needs) (λ c. search needs) returns returns-2)
+put-offender-spec = tie.close (tie.spec (λ c κs. search needs) (λ c κs. search needs) (λ c. search needs) returns returns-2)

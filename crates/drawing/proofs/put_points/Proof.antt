@@ -24,6 +24,4 @@ returns c =
     put-then (d .put-dots .ensures) (p .put-bytes .ensures) (all-fits (d .before .before .before))
 
 pub put-points-spec : {M : Type 1} → statement M
-put-points-spec =
-    tie.close
-    (tie.spec (λ c κs. (c .before .before .pre .0, omega arith)) (λ c. search needs) (λ c κs. search needs) (λ c. search needs) returns)
+put-points-spec = tie.close (tie.spec (λ c κs. (c .before .before .pre .0, omega arith)) (λ c. search needs) (λ c κs. search needs) (λ c. search needs) returns)

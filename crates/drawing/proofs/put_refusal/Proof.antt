@@ -32,6 +32,4 @@ returns c =
     put-third (n .put-refused .ensures) (t .put-sentence .ensures) (p .put-bytes .ensures) (all-fits (start (n .before)))
 
 pub put-refusal-spec : {M : Type 1} → statement M
-put-refusal-spec =
-    tie.close
-    (tie.spec (λ c κs. search needs) (λ c κs. omega (arith, first-ends (c .before .before .before))) (λ c. search needs) (λ c κs. search needs) (λ c. search needs) returns)
+put-refusal-spec = tie.close (tie.spec (λ c κs. search needs) (λ c κs. omega (arith, first-ends (c .before .before .before))) (λ c. search needs) (λ c κs. search needs) (λ c. search needs) returns)

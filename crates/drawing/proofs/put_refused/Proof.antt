@@ -21,6 +21,4 @@ unfolding refusedSays
 returns c = let f = c .before .before in rw (f .before .before .before .before .before .free-beside .ensures .0) at (f .fill .ensures)
 
 pub put-refused-spec : {M : Type 1} → statement M
-put-refused-spec =
-    tie.close
-    (tie.spec (λ c κs. search needs) (λ c. search needs) (λ c. search needs) (λ c. search needs) fill-requires (λ c. search needs) returns)
+put-refused-spec = tie.close (tie.spec (λ c κs. search needs) (λ c. search needs) (λ c. search needs) (λ c. search needs) fill-requires (λ c. search needs) returns)

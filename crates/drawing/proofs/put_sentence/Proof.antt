@@ -31,6 +31,4 @@ returns c =
     wrote (rw (wrote-front (said s)) at (p .put-bytes .ensures)) (omega (arith, short (start (s .before))))
 
 pub put-sentence-spec : {M : Type 1} → statement M
-put-sentence-spec =
-    tie.close
-    (tie.spec (λ c. search needs) (λ c κs. search needs) array-share-prefix-said (λ c. wrote-many (said (c .before .before .before))) (λ c κs. search needs) (λ c. search needs) returns)
+put-sentence-spec = tie.close (tie.spec (λ c. search needs) (λ c κs. search needs) array-share-prefix-said (λ c. wrote-many (said (c .before .before .before))) (λ c κs. search needs) (λ c. search needs) returns)

@@ -9,5 +9,4 @@ unfolding numberSize
 returns c = search needs
 
 pub size-in-spec : {M : Type 1} → statement M
-size-in-spec =
-    tie.close (tie.spec (λ c. search needs) (λ c. search needs) (λ c κs. search needs) (λ c κs. search needs) returns)
+size-in-spec = tie.close (tie.spec (λ c. search needs) (λ c. search needs) (λ c κs. search needs) (λ c κs. search needs) returns)

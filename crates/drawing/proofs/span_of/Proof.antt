@@ -9,5 +9,4 @@ unfolding spanOf
 returns c = search needs
 
 pub span-of-spec : {M : Type 1} → statement M
-span-of-spec =
-    tie.close (tie.spec (λ c κs. search needs) (λ c κs. search needs) (λ c κs. search needs) (λ c κs. search needs) returns)
+span-of-spec = tie.close (tie.spec (λ c κs. search needs) (λ c κs. search needs) (λ c κs. search needs) (λ c κs. search needs) returns)

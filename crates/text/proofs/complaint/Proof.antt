@@ -13,6 +13,4 @@ returns : tie.Need-returns
 returns c = let t = c .before .before in rw (wrote-front (t .before .before .before .before .say .ensures)) at (t .put-bytes .ensures)
 
 pub complaint-spec : {M : Type 1} → statement M
-complaint-spec =
-    tie.close
-    (tie.spec (λ c. search needs) (λ c κs. search needs) array-share-prefix-said (λ c. wrote-many (c .before .before .before .say .ensures)) (λ c κs. search needs) (λ c. search needs) returns)
+complaint-spec = tie.close (tie.spec (λ c. search needs) (λ c κs. search needs) array-share-prefix-said (λ c. wrote-many (c .before .before .before .say .ensures)) (λ c κs. search needs) (λ c. search needs) returns)

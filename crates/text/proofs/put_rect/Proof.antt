@@ -97,5 +97,4 @@ returns c =
 
 pub put-rect-spec : {M : Type 1} → statement M
 put-rect-spec =
-    tie.close
-    (tie.spec (λ c. search needs) put-field-requires (λ c. search needs) put-field-requires-2 (λ c. search needs) put-field-requires-3 (λ c. search needs) put-field-requires-4 (λ c. search needs) returns)
+    tie.close (tie.spec (λ c. search needs) put-field-requires (λ c. search needs) put-field-requires-2 (λ c. search needs) put-field-requires-3 (λ c. search needs) put-field-requires-4 (λ c. search needs) returns)

@@ -72,6 +72,4 @@ returns : tie.Need-returns Inv-loop μ-loop
 returns c = let e : c .before .loop .i ≡ c .before .before .before .args .n = omega arith in rw e at (c .before .loop .inv .1)
 
 pub put-rects-spec : {M : Type 1} → statement M
-put-rects-spec =
-    tie.close
-    (tie.spec Inv-loop μ-loop loop-holds (λ c κs. search needs) put-rect-requires (λ c. omega arith) (λ c. omega arith) loop-again same-length returns)
+put-rects-spec = tie.close (tie.spec Inv-loop μ-loop loop-holds (λ c κs. search needs) put-rect-requires (λ c. omega arith) (λ c. omega arith) loop-again same-length returns)

@@ -22,28 +22,33 @@ place s = worded (ascii " place ") (s .args .place)
 abbrev from-place : tie.Start → List ℕ
 from-place s = place s ++ ascii "\n"
 
+-- the places on the way: the start, and where the number is put
+abbrev start : tie.After-put-worded-arg2 → tie.Start
+start c = c .before .before .before
+
+abbrev number-put : tie.After-put-worded-arg4 → tie.After-put-worded
+number-put c = c .before .before .before .before
+
 -- there is room for all
 room : (s : tie.Start) → 0 + length (number s ++ from-place s) ≤ length (s .args .out .now)
 room s = omega (arith, ap length (refusal-pieces (s .args .number) (s .args .place)), s .pre)
 
 put-worded-requires : tie.Need-put-worded-requires
-put-worded-requires c κs = let s = c .before .before .before in room-first 0 _ (number s) (from-place s) (room s)
+put-worded-requires c κs = let s = start c in room-first 0 _ (number s) (from-place s) (room s)
 
 put-worded-requires-2 : tie.Need-put-worded-requires-2
 put-worded-requires-2 c κs =
-    let d = c .before .before .before .before in
-    let s = d .before .before .before .before in
+    let d = number-put c in
+    let s = start (d .before) in
     room-first _ _ (place s) (ascii "\n") (room-then (from-place s) (d .put-worded .ensures) (room s))
 
 returns : tie.Need-returns
 returns c =
     let w = c .before .before in
     let p = w .before .before .before .before .before in
-    let n = p .before .before .before .before .before in
-    let s = n .before .before .before .before in
+    let n = number-put (p .before) in
+    let s = start (n .before) in
     rw (refusal-pieces (s .args .number) (s .args .place)) (put-third (n .put-worded .ensures) (p .put-worded2 .ensures) (w .put-bytes .ensures) (room s))
 
 pub put-refusal-spec : {M : Type 1} → statement M
-put-refusal-spec =
-    tie.close
-    (tie.spec (λ c. search needs) put-worded-requires (λ c. search needs) put-worded-requires-2 (λ c. search needs) (λ c κs. search needs) (λ c. search needs) returns)
+put-refusal-spec = tie.close (tie.spec (λ c. search needs) put-worded-requires (λ c. search needs) put-worded-requires-2 (λ c. search needs) (λ c κs. search needs) (λ c. search needs) returns)

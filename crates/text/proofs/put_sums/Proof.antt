@@ -70,5 +70,4 @@ returns c =
 
 pub put-sums-spec : {M : Type 1} → statement M
 put-sums-spec =
-    tie.close
-    (tie.spec (λ c. search needs) put-worded-requires (λ c. search needs) put-worded-requires-2 (λ c. search needs) put-worded-requires-3 (λ c. search needs) (λ c κs. search needs) (λ c. search needs) returns)
+    tie.close (tie.spec (λ c. search needs) put-worded-requires (λ c. search needs) put-worded-requires-2 (λ c. search needs) put-worded-requires-3 (λ c. search needs) (λ c κs. search needs) (λ c. search needs) returns)

@@ -18,5 +18,4 @@ returns c =
     put-then (w .put-worded .ensures) (t .put-bytes .ensures) (omega (arith, text-length (w .before .before .before .before .args .place) (omega arith)))
 
 pub say-line-spec : {M : Type 1} → statement M
-say-line-spec =
-    tie.close (tie.spec (λ c. search needs) put-worded-requires (λ c. search needs) (λ c κs. search needs) (λ c. search needs) returns)
+say-line-spec = tie.close (tie.spec (λ c. search needs) put-worded-requires (λ c. search needs) (λ c κs. search needs) (λ c. search needs) returns)

@@ -16,6 +16,4 @@ unfolding manySays
 returns-2 c = let t = c .before .before in rw (le-ltb 65_536 _ (t .before .before .before .if1 .left)) (wrote (t .put-bytes2 .ensures) (omega arith))
 
 pub say-many-spec : {M : Type 1} → statement M
-say-many-spec =
-    tie.close
-    (tie.spec (λ c. search needs) (λ c κs. search needs) (λ c. search needs) returns (λ c. search needs) (λ c κs. search needs) (λ c. search needs) returns-2)
+say-many-spec = tie.close (tie.spec (λ c. search needs) (λ c κs. search needs) (λ c. search needs) returns (λ c. search needs) (λ c κs. search needs) (λ c. search needs) returns-2)

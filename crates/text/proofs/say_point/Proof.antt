@@ -14,7 +14,7 @@ use Rattle.numerals.specs.Numerals.{decimal, signed}
 use Rattle.text.specs.Inner.{worded, field}
 use Rattle.text.specs.Sentences.{namesPoint}
 use Rattle.text.proofs.Lengths.{wide-length, names-length}
-use Rattle.numerals.proofs.Writing.{wrote-then, put-then, room-first, room-then}
+use Rattle.numerals.proofs.Writing.{wrote-both, put-then, room-first, room-then}
 use Rattle.text.proofs.say_point.Statement.{statement}
 use Rattle.text.proofs.say_point.Tie as tie
 
@@ -49,43 +49,46 @@ room-open s = room-first 0 (length (s .args .out .now)) (opened (s .args .place)
 put-worded-requires : tie.Need-put-worded-requires
 put-worded-requires c κs = omega (arith, wide-length (c .before .before .before .args .place) (omega arith))
 
--- the second piece is written
-abbrev start₂ : tie.After-put-bytes → tie.Start
-start₂ c = c .before .before .before .before .before .before .before .before .before
+-- the places on the way: the start, and from where a number is to be put what is written before
+abbrev start : tie.After-put-bytes → tie.Start
+start c = c .before .before .before .before .before .before .before .before .before
 
-wrote-open : (c : tie.After-put-bytes) → let s = start₂ c .args in Wrote (s .out .now) 0 (opened (s .place)) (c .put-bytes .result) (c .put-bytes .last .0)
-wrote-open c = put-then (c .before .before .before .before .before .put-worded .ensures) (c .put-bytes .ensures) (room-open (start₂ c))
+abbrev open-put : tie.After-struct-told → tie.After-put-bytes
+open-put c = c .before .before .before .before .before
+
+abbrev x-put : tie.After-struct-told2 → tie.After-put-field
+x-put c = c .before .before .before .before .before
+
+-- the first two pieces are written
+wrote-open : (c : tie.After-put-bytes) → let s = start c .args in Wrote (s .out .now) 0 (opened (s .place)) (c .put-bytes .result) (c .put-bytes .last .0)
+wrote-open c = put-then (c .before .before .before .before .before .put-worded .ensures) (c .put-bytes .ensures) (room-open (start c))
 
 put-field-requires : tie.Need-put-field-requires
 put-field-requires c κs =
-    let b = c .before .before .before .before .before in
-    let x : ℤ = start₂ b .args .p .x in
-    rw (back x (omega arith)) (room-then (field x (ascii ", ")) (wrote-open b) (room-x (start₂ b)))
+    let s = start (open-put c) in
+    let x : ℤ = s .args .p .x in
+    rw (back x (omega arith)) (room-then (field x (ascii ", ")) (wrote-open (open-put c)) (room-x s))
 
 -- the third piece is written
-abbrev start₃ : tie.After-put-field → tie.Start
-start₃ c = start₂ (c .before .before .before .before .before .before)
-
-wrote-x : (c : tie.After-put-field) → let s = start₃ c .args in Wrote (s .out .now) 0 (withX (s .place) (s .p)) (c .put-field .result) (c .put-field .last .0)
+wrote-x : (c : tie.After-put-field) → let s = start (open-put (c .before)) .args in Wrote (s .out .now) 0 (withX (s .place) (s .p)) (c .put-field .result) (c .put-field .last .0)
 wrote-x c =
-    let s = start₃ c in
-    wrote-then (wrote-open (c .before .before .before .before .before .before)) (rw (back (s .args .p .x) (omega arith)) at (c .put-field .ensures)) (room-open s)
+    let s = start (open-put (c .before)) in
+    wrote-both (wrote-open (open-put (c .before))) (rw (back (s .args .p .x) (omega arith)) at (c .put-field .ensures)) (room-x s)
 
 put-field-requires-2 : tie.Need-put-field-requires-2
 put-field-requires-2 c κs =
-    let f = c .before .before .before .before .before in
-    let y : ℤ = start₃ f .args .p .y in
-    rw (back y (omega arith)) (room-then (field y (ascii ") ")) (wrote-x f) (room-whole (start₃ f)))
+    let s = start (open-put (x-put c .before)) in
+    let y : ℤ = s .args .p .y in
+    rw (back y (omega arith)) (room-then (field y (ascii ") ")) (wrote-x (x-put c)) (room-whole s))
 
 returns : tie.Need-returns
 returns c =
     let t = c .before .before in
-    let f = t .before .before .before .before .before .before in
-    let s = start₃ f in
+    let f = x-put (t .before) in
+    let s = start (open-put (f .before)) in
     let p : Point = s .args .p in
-    rw (← whole (s .args .place) p) (wrote-then (wrote-x f) (rw (back (p .y) (omega arith)) at (t .put-field2 .ensures)) (room-x s))
+    rw (← whole (s .args .place) p) (wrote-both (wrote-x f) (rw (back (p .y) (omega arith)) at (t .put-field2 .ensures)) (room-whole s))
 
 pub say-point-spec : {M : Type 1} → statement M
 say-point-spec =
-    tie.close
-    (tie.spec (λ c. search needs) put-worded-requires (λ c. search needs) (λ c κs. search needs) (λ c. search needs) put-field-requires (λ c. search needs) put-field-requires-2 (λ c. search needs) returns)
+    tie.close (tie.spec (λ c. search needs) put-worded-requires (λ c. search needs) (λ c κs. search needs) (λ c. search needs) put-field-requires (λ c. search needs) put-field-requires-2 (λ c. search needs) returns)

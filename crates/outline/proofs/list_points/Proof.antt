@@ -154,9 +154,7 @@ list-points-spec =
     (λ c. search needs)
     put-points-requires
     add-listed
-    (λ c κs. search needs)
-    (λ c. search needs)
+    (λ c κs. search needs) (λ c. search needs)
     loop-again
-    (λ c. search needs)
-    (λ c. search needs)
+    (λ c. search needs) (λ c. search needs)
     returns)

@@ -42,15 +42,5 @@ pub fill-spec : {M : Type 1} → statement M
 fill-spec =
     tie.close
     (tie.spec
-    Inv-loop
-    μ-loop
-    loop-holds
-    (λ c. search needs) (λ c κs. search needs)
-    put-piece-requires
-    (λ c κs. search needs)
-    (λ c. omega (arith, loop-again c .few))
-    (λ c. omega arith)
-    (λ c. omega arith)
-    loop-again
-    same-length
-    returns)
+    Inv-loop μ-loop loop-holds (λ c. search needs) (λ c κs. search needs) put-piece-requires (λ c κs. search needs)
+    (λ c. omega (arith, loop-again c .few)) (λ c. omega arith) (λ c. omega arith) loop-again same-length returns)

@@ -39,12 +39,6 @@ pub picture-spec : {M : Type 1} → statement M
 picture-spec =
     tie.close
     (tie.spec
-    (λ c. let a = c .before .before .before .args in not-drawn (a .input .now) (a .out .now) (omega arith))
-    (λ c. search needs) (λ c κs. search needs)
-    (λ c. omega (arith, read (c .before .before) .few))
-    (λ c. read (c .before .before) .fits)
-    (λ c. sym (length-take-le _ _ (read (c .before .before .before) .fits)))
-    (λ c κs. search needs)
-    draw-requires
-    (λ c. search needs)
-    returns-2)
+    (λ c. let a = c .before .before .before .args in not-drawn (a .input .now) (a .out .now) (omega arith)) (λ c. search needs) (λ c κs. search needs)
+    (λ c. omega (arith, read (c .before .before) .few)) (λ c. read (c .before .before) .fits)
+    (λ c. sym (length-take-le _ _ (read (c .before .before .before) .fits))) (λ c κs. search needs) draw-requires (λ c. search needs) returns-2)

@@ -121,11 +121,5 @@ pub put-picture-spec : {M : Type 1} → statement M
 put-picture-spec =
     tie.close
     (tie.spec
-    (λ c κs. search needs)
-    (λ c κs. c .frame-of .ensures .1)
-    put-list-requires
-    put-points-requires
-    put-offender-requires
-    put-answer-requires
-    (λ c. search needs) (λ c κs. search needs) (λ c. search needs)
-    returns)
+    (λ c κs. search needs) (λ c κs. c .frame-of .ensures .1) put-list-requires put-points-requires put-offender-requires put-answer-requires
+    (λ c. search needs) (λ c κs. search needs) (λ c. search needs) returns)

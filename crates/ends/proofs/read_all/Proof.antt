@@ -18,12 +18,7 @@ pub read-all-spec : {M : Type 1} → statement M
 read-all-spec =
     tie.close
     (tie.spec
-    Inv-loop
-    μ-loop
-    (λ c. search needs) (λ c. search needs) (λ c. search needs) (λ c. search needs) (λ c κs. search needs) (λ c. search needs)
+    Inv-loop μ-loop (λ c. search needs) (λ c. search needs) (λ c. search needs) (λ c. search needs) (λ c κs. search needs) (λ c. search needs)
     (λ c. counts _ _ (omega arith))
     (λ c. search needs) (λ c. search needs) (λ c. search needs) (λ c κs. search needs) (λ c. search needs) (λ c. search needs) (λ c. search needs)
-    (λ c. search needs)
-    (λ c. counts _ _ (omega arith))
-    (λ c. search needs)
-    (λ c. counts _ _ (omega arith)))
+    (λ c. search needs) (λ c. counts _ _ (omega arith)) (λ c. search needs) (λ c. counts _ _ (omega arith)))

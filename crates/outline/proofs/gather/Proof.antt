@@ -58,13 +58,5 @@ pub gather-spec : {M : Type 1} → statement M
 gather-spec =
     tie.close
     (tie.spec
-    Inv-loop
-    μ-loop
-    (λ c κs. search needs)
-    loop-holds
-    (λ c κs. search needs)
-    offer-corners-requires
-    (λ c. search needs) (λ c. search needs)
-    loop-again
-    (λ c κs. search needs) (λ c κs. search needs) (λ c. search needs)
-    returns)
+    Inv-loop μ-loop (λ c κs. search needs) loop-holds (λ c κs. search needs) offer-corners-requires (λ c. search needs) (λ c. search needs) loop-again
+    (λ c κs. search needs) (λ c κs. search needs) (λ c. search needs) returns)

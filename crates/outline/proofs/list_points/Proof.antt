@@ -143,18 +143,6 @@ pub list-points-spec : {M : Type 1} → statement M
 list-points-spec =
     tie.close
     (tie.spec
-    Inv-loop
-    μ-loop
-    loop-holds
-    gather-requires
-    (λ c. omega (arith, has-room c))
-    (λ c. omega (arith, has-room (c .before)))
-    (λ c. omega (arith, has-room (c .before)))
-    (λ c. omega (arith, has-room (c .before)))
-    (λ c. search needs)
-    put-points-requires
-    add-listed
-    (λ c κs. search needs) (λ c. search needs)
-    loop-again
-    (λ c. search needs) (λ c. search needs)
-    returns)
+    Inv-loop μ-loop loop-holds gather-requires (λ c. omega (arith, has-room c)) (λ c. omega (arith, has-room (c .before)))
+    (λ c. omega (arith, has-room (c .before))) (λ c. omega (arith, has-room (c .before))) (λ c. search needs) put-points-requires add-listed
+    (λ c κs. search needs) (λ c. search needs) loop-again (λ c. search needs) (λ c. search needs) returns)

@@ -30,10 +30,6 @@ pub offer-spec : {M : Type 1} → statement M
 offer-spec =
     tie.close
     (tie.spec
-    (λ c κs. search needs)
-    returns
-    (λ c. search needs) (λ c. search needs) (λ c. search needs) (λ c. search needs) (λ c κs. search needs) (λ c. search needs)
-    returns-2
-    (λ c κs. search needs)
-    (λ c. c .before .before .make-room .kept .0 ∙ simp length-set)
-    returns-3)
+    (λ c κs. search needs) returns
+    (λ c. search needs) (λ c. search needs) (λ c. search needs) (λ c. search needs) (λ c κs. search needs) (λ c. search needs) returns-2
+    (λ c κs. search needs) (λ c. c .before .before .make-room .kept .0 ∙ simp length-set) returns-3)

@@ -51,19 +51,10 @@ pub offer-corners-spec : {M : Type 1} → statement M
 offer-corners-spec =
     tie.close
     (tie.spec
-    (λ c κs. search needs)
-    (λ c κs. search (needs, corner-in-range))
-    (λ c κs. search needs)
-    (λ c κs. search (needs, corner-in-range))
-    (λ c κs. search needs)
-    (λ c κs. search (needs, corner-in-range))
-    (λ c κs. search needs)
-    (λ c κs. search (needs, corner-in-range))
-    (λ c κs. search needs) (λ c κs. search needs)
-    returns
-    (λ c κs. search needs)
+    (λ c κs. search needs) (λ c κs. search (needs, corner-in-range)) (λ c κs. search needs) (λ c κs. search (needs, corner-in-range))
+    (λ c κs. search needs) (λ c κs. search (needs, corner-in-range)) (λ c κs. search needs) (λ c κs. search (needs, corner-in-range))
+    (λ c κs. search needs) (λ c κs. search needs) returns (λ c κs. search needs)
     (λ c κs. let m = c .before .before .before in (m .offer .ensures .few, long m))
     (λ c κs. let n = c .before .before .before in (n .offer2 .ensures .few, rw (n .offer2 .kept .0) (long (n .before .before .before .before))))
     (λ c κs. let o = c .before .before .before in let n = o .before .before .before .before in (o .offer3 .ensures .few, rw (o .offer3 .kept .0, n .offer2 .kept .0) (long (n .before .before .before .before))))
-    (λ c. search needs)
-    returns-2)
+    (λ c. search needs) returns-2)

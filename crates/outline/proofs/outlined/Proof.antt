@@ -57,11 +57,6 @@ pub outlined-spec : {M : Type 1} → statement M
 outlined-spec =
     tie.close
     (tie.spec
-    (λ c. search needs)
-    list-points-requires
-    (λ c κs. search needs) (λ c. search needs)
-    returns
-    (λ c. sym (ready (c .before) .0))
-    list-points-requires-2
-    (λ c. let e = c .before .before in e .list-points2 .kept .1 .1 .0 ∙ ap length (ready (e .before .before .before) .1))
+    (λ c. search needs) list-points-requires (λ c κs. search needs) (λ c. search needs) returns (λ c. sym (ready (c .before) .0))
+    list-points-requires-2 (λ c. let e = c .before .before in e .list-points2 .kept .1 .1 .0 ∙ ap length (ready (e .before .before .before) .1))
     returns-2)

@@ -23,11 +23,6 @@ pub main-spec : {M : Type 1} → statement M
 main-spec =
     tie.close
     (tie.spec
-    (λ c. sym (length-replicate {A = ℕ} 65_537 0))
-    (λ c κs. search needs) (λ c. search needs) (λ c. search needs)
-    (λ c. sym (length-replicate {A = ℕ} 800_000 0))
-    (λ c κs. search needs)
-    array-share-prefix-drawn
-    slice-aggregate-write-output
-    (λ c κs. search needs)
-    (λ c. search needs))
+    (λ c. sym (length-replicate {A = ℕ} 65_537 0)) (λ c κs. search needs) (λ c. search needs) (λ c. search needs)
+    (λ c. sym (length-replicate {A = ℕ} 800_000 0)) (λ c κs. search needs) array-share-prefix-drawn slice-aggregate-write-output
+    (λ c κs. search needs) (λ c. search needs))

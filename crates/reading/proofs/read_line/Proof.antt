@@ -84,11 +84,7 @@ pub read-line-spec : {M : Type 1} → statement M
 read-line-spec =
     tie.close
     (tie.spec
-    (λ c. search needs) (λ c. search needs) (λ c. search needs) (λ c κs. search needs)
-    returns
-    (λ c. search (needs, length-take-le))
+    (λ c. search needs) (λ c. search needs) (λ c. search needs) (λ c κs. search needs) returns (λ c. search (needs, length-take-le))
     (λ c κs. search needs) (λ c. search needs) (λ c. search needs)
-    (λ c. let s = start (found (c .before .before .before)) in omega (arith, length-drop (s .args .at) (s .args .text .now)))
-    (λ c. search needs)
-    returns-2
-    returns-3)
+    (λ c. let s = start (found (c .before .before .before)) in omega (arith, length-drop (s .args .at) (s .args .text .now))) (λ c. search needs)
+    returns-2 returns-3)

@@ -82,14 +82,5 @@ pub read-points-spec : {M : Type 1} → statement M
 read-points-spec =
     tie.close
     (tie.spec
-    (λ c κs. search needs)
-    returns
-    (λ c κs. search needs) (λ c. search needs) (λ c κs. search needs) (λ c. search needs) (λ c κs. search needs)
-    returns-2
-    (λ c κs. search needs)
-    returns-3
-    write-points-requires
-    (λ c κs. search needs)
-    returns-4
-    (λ c. search needs)
-    returns-5)
+    (λ c κs. search needs) returns (λ c κs. search needs) (λ c. search needs) (λ c κs. search needs) (λ c. search needs) (λ c κs. search needs)
+    returns-2 (λ c κs. search needs) returns-3 write-points-requires (λ c κs. search needs) returns-4 (λ c. search needs) returns-5)

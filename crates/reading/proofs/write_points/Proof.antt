@@ -78,22 +78,7 @@ pub write-points-spec : {M : Type 1} → statement M
 write-points-spec =
     tie.close
     (tie.spec
-    Inv-loop
-    μ-loop
-    loop-holds
-    (λ c κs. search needs) (λ c. search needs)
-    (λ c. omega (arith, room c))
-    (λ c. omega (arith, room c))
-    (λ c. omega (arith, room c))
-    (λ c. omega (arith, room c))
-    (λ c. omega (arith, room c))
-    (λ c. omega (arith, room c))
-    (λ c. simp length-set (room c))
-    (λ c. omega (arith, room c))
-    (λ c. let p = passed c in omega (arith, p .further, p .reached .within))
-    loop-again
-    (λ c. search needs)
-    (λ c. absurd (unread c))
-    (λ c. absurd (unread c))
-    (λ c. c .before .loop .inv .2)
-    returns-2)
+    Inv-loop μ-loop loop-holds (λ c κs. search needs) (λ c. search needs) (λ c. omega (arith, room c)) (λ c. omega (arith, room c))
+    (λ c. omega (arith, room c)) (λ c. omega (arith, room c)) (λ c. omega (arith, room c)) (λ c. omega (arith, room c))
+    (λ c. simp length-set (room c)) (λ c. omega (arith, room c)) (λ c. let p = passed c in omega (arith, p .further, p .reached .within)) loop-again
+    (λ c. search needs) (λ c. absurd (unread c)) (λ c. absurd (unread c)) (λ c. c .before .loop .inv .2) returns-2)

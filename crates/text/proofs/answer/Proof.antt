@@ -48,11 +48,6 @@ pub answer-spec : {M : Type 1} → statement M
 answer-spec =
     tie.close
     (tie.spec
-    (λ c. search needs) (λ c κs. search needs)
-    (λ c. omega (arith, all-read (c .before) .few))
-    (λ c. all-read (c .before) .fits)
-    (λ c. sym (length-take-le _ _ (all-read (c .before .before) .fits)))
-    (λ c κs. search needs) (λ c. search needs)
-    returns
-    (λ c κs. search needs) (λ c κs. search needs) (λ c κs. search needs) (λ c. search needs)
-    returns-2)
+    (λ c. search needs) (λ c κs. search needs) (λ c. omega (arith, all-read (c .before) .few)) (λ c. all-read (c .before) .fits)
+    (λ c. sym (length-take-le _ _ (all-read (c .before .before) .fits))) (λ c κs. search needs) (λ c. search needs) returns
+    (λ c κs. search needs) (λ c κs. search needs) (λ c κs. search needs) (λ c. search needs) returns-2)

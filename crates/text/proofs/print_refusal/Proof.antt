@@ -23,9 +23,6 @@ pub print-refusal-spec : {M : Type 1} → statement M
 print-refusal-spec =
     tie.close
     (tie.spec
-    (λ c. search needs)
-    (λ c κs. short (c .before .before))
+    (λ c. search needs) (λ c κs. short (c .before .before))
     (λ c. let d = c .before .before in wrote-within (d .put-refusal .ensures) (omega (arith, short (d .before .before .before))))
-    (λ c. wrote-many (c .before .before .before .put-refusal .ensures))
-    (λ c κs. search needs) (λ c. search needs)
-    returns)
+    (λ c. wrote-many (c .before .before .before .put-refusal .ensures)) (λ c κs. search needs) (λ c. search needs) returns)

@@ -50,9 +50,6 @@ pub print-through-spec : {M : Type 1} → statement M
 print-through-spec =
     tie.close
     (tie.spec
-    (λ c κs. omega (arith, first-fits (start c)))
-    (λ c κs. (start (sums-put c .before) .pre .0, rest-fits (sums-put c)))
+    (λ c κs. omega (arith, first-fits (start c))) (λ c κs. (start (sums-put c .before) .pre .0, rest-fits (sums-put c)))
     (λ c. let d = c .before .before .before in wrote-within (d .put-rects .ensures) (rest-fits (sums-put (d .before))))
-    (λ c. wrote-many (lines (c .before .before .before .before)))
-    (λ c κs. search needs) (λ c. search needs) (λ c. search needs)
-    returns)
+    (λ c. wrote-many (lines (c .before .before .before .before))) (λ c κs. search needs) (λ c. search needs) (λ c. search needs) returns)

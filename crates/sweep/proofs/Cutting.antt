@@ -26,7 +26,7 @@ use Rattle.live.proofs.Shown.{live-wide, live-far}
 use Rattle.live.proofs.Crossing.{Reached, carried-far, cuts, cut-at-carried, cut-at-point, cut-elsewhere}
 use Rattle.sweep.specs.declared.Sweep.{Sweep}
 use Rattle.sweep.specs.Inner.{carriedPoint, nearer, afterPoint, withCarried, takenFrom, carrying, leftEnd, endPut, endPutWork, cutTo, cutWork, endedBox, restOf, passedIn, Underway, toCome, liveSum, Gives}
-use Rattle.sweep.proofs.Kept.{kept-all}
+use Rattle.sweep.proofs.Past.{kept-all}
 use Rattle.sweep.proofs.Places.{first-on-row}
 use Rattle.sweep.proofs.Going.{there-one, there-none, there-most, put-ends}
 use Rattle.sweep.proofs.Taking.{point-less}

@@ -21,7 +21,7 @@ use Rattle.live.specs.Stands.{far, number, stand, Sweeping}
 use Rattle.live.proofs.Moves.{opens, closes}
 use Rattle.sweep.specs.declared.Sweep.{Sweep}
 use Rattle.sweep.specs.Inner.{putLive, KeptPast, withOpened, closed, newLive, endPut, endPutWork, roomFor, restOf, passedIn, aheadIn, there, Underway, toCome, liveSum, mostBegun}
-use Rattle.sweep.proofs.Kept.{kept-all}
+use Rattle.sweep.proofs.Past.{kept-all}
 use Rattle.sweep.proofs.Places.{live-put}
 
 -- ---- Counts

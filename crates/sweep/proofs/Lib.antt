@@ -1,5 +1,5 @@
 pub mod Lives
-pub mod Kept
+pub mod Past
 pub mod Places
 pub mod InOrder
 pub mod Turning

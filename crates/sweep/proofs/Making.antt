@@ -24,7 +24,7 @@ use Rattle.live.proofs.Moves.{starts}
 use Rattle.live.proofs.Numbered.{list-at, rect-no-solid}
 use Rattle.sweep.specs.declared.Sweep.{Sweep}
 use Rattle.sweep.specs.Inner.{putRect, KeptPast, livesOf, startOf, roomFor, aheadIn, Ready, Underway, liveSum, GoesOn, Gives, AllGiven, Swept, mostBegun}
-use Rattle.sweep.proofs.Kept.{kept-all, kept-on}
+use Rattle.sweep.proofs.Past.{kept-all, kept-on}
 use Rattle.sweep.proofs.Going.{given-most}
 use Rattle.sweep.proofs.Putting.{Puts, puts-none, puts-next, puts-all}
 

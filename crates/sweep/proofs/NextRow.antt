@@ -23,7 +23,7 @@ use Rattle.live.proofs.Crossing.{turns, ends}
 use Rattle.sweep.specs.declared.Sweep.{Sweep}
 use Rattle.sweep.specs.Inner.{livesOf, zeroLive, liveAt, Turned, roomFor, restOf, passedIn, aheadIn, Underway, GoesOn, AllGiven}
 use Rattle.sweep.proofs.Lives.{length-lives}
-use Rattle.sweep.proofs.Kept.{kept-all, kept-further}
+use Rattle.sweep.proofs.Past.{kept-all, kept-further}
 use Rattle.sweep.proofs.Places.{nextOf}
 use Rattle.sweep.proofs.Going.{there-most, room-half}
 

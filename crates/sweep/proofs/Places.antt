@@ -23,7 +23,7 @@ use Rattle.live.specs.Stands.{far, nextOn}
 use Rattle.sweep.specs.declared.Sweep.{Sweep}
 use Rattle.sweep.specs.Inner.{liveSize, livesOf, zeroLive, liveAt, putLive, KeptPast, farPoint, farLive, nextPoint, nextLive, onRowOf, sweptPoints}
 use Rattle.sweep.proofs.Lives.{length-lives, lives-put}
-use Rattle.sweep.proofs.Kept.{kept-live}
+use Rattle.sweep.proofs.Past.{kept-live}
 
 -- ---- One put at a place
 

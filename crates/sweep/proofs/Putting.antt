@@ -20,7 +20,7 @@ use Rattle.rule.specs.Checks.{accepted}
 use Rattle.live.specs.Stands.{rectNo}
 use Rattle.live.proofs.Numbered.{list-at}
 use Rattle.sweep.specs.Inner.{putRect, KeptPast}
-use Rattle.sweep.proofs.Kept.{kept-all, kept-on, kept-rect}
+use Rattle.sweep.proofs.Past.{kept-all, kept-on, kept-rect}
 
 -- an output where those of the list with these numbers stand at their places, and past the list all is as it was
 pub record Puts (ps : List Point) (finished : List ℕ) (out₀ out : List ℤ) : Type 0 where

@@ -18,7 +18,7 @@ use Rattle.live.proofs.Shown.{next-near}
 use Rattle.live.proofs.Moves.{cancels, takes-point, takes-carried}
 use Rattle.sweep.specs.declared.Sweep.{Sweep}
 use Rattle.sweep.specs.Inner.{carriedPoint, nearer, afterPoint, withCarried, cancelled, takenFrom, restOf, passedIn, aheadIn, Underway, toCome, liveSum, GoesOn}
-use Rattle.sweep.proofs.Kept.{kept-all}
+use Rattle.sweep.proofs.Past.{kept-all}
 use Rattle.sweep.proofs.Places.{first-on-row}
 use Rattle.sweep.proofs.Going.{there-one, there-none, there-most}
 

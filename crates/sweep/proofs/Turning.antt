@@ -15,7 +15,7 @@ use Rattle.live.specs.declared.Live.{Live}
 use Rattle.sweep.specs.declared.Sweep.{Sweep}
 use Rattle.sweep.specs.Inner.{liveSize, livesOf, zeroLive, liveAt, putLive, KeptPast, atRow, Turned}
 use Rattle.sweep.proofs.Lives.{length-lives, lives-put}
-use Rattle.sweep.proofs.Kept.{kept-all, kept-on, kept-live}
+use Rattle.sweep.proofs.Past.{kept-all, kept-on, kept-live}
 
 -- the live rectangles passed, but for the first so many, are moved to stand before those ahead
 pub record Turning (z : Sweep) (before after : List ℤ) (passed ahead : ℕ) : Type 0 where

@@ -13,7 +13,7 @@ use Rattle.plane.proofs.Bools.{clash}
 use Rattle.rule.specs.Answers.{forwardAnswer, forwardWork, forwardOut, forwardList}
 use Rattle.rule.proofs.Refusals.{accepted-with-room, forward-accepted, forward-lacks-room}
 use Rattle.sweep.specs.Inner.{KeptPast, sweptPoints}
-use Rattle.sweep.proofs.Kept.{kept-on, kept-drained}
+use Rattle.sweep.proofs.Past.{kept-on, kept-drained}
 use Rattle.sweep.proofs.count_then_write.Statement.{statement}
 use Rattle.sweep.proofs.count_then_write.Tie as tie
 

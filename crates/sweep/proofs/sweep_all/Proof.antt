@@ -11,7 +11,7 @@ use Rattle.plane.specs.declared.Point.{Point}
 use Rattle.plane.specs.Words.{pointsOf, flat, areaOf, edgeOf, pointAt}
 use Rattle.rule.proofs.Area.{rule-area-most, rule-edge-fits}
 use Rattle.sweep.specs.Inner.{sweptPoints, toCome, GoesOn, Gives, AllGiven}
-use Rattle.sweep.proofs.Kept.{kept-on}
+use Rattle.sweep.proofs.Past.{kept-on}
 use Rattle.sweep.proofs.Making.{Making, starts-making, made-fits, output-length, goes-on, given-solid, added-within, output-put, output-left, gives, all-made}
 use Rattle.sweep.proofs.sweep_all.Statement.{statement}
 use Rattle.sweep.proofs.sweep_all.Tie as tie

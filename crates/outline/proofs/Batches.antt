@@ -4,8 +4,8 @@ use native.Mathlib.Numerals.{add-one}
 use native.Mathlib.Omega.{arith}
 use mathlib.Core.Path.{_≡_, refl, sym, ap, _∙_}
 use mathlib.Core.Bool.{Bool, true, false, _&&_, and-false}
-use mathlib.Core.List.{List, [], _∷_, _++_, List·Memᴰ as In, List·Memᴰ·head as head, List·Memᴰ·tail as tail}
-use lib.ListN.{length, take, drop, length-append}
+use mathlib.Core.List.{List, [], _∷_, _++_, List·Memᴰ as In, List·Memᴰ·head as head, List·Memᴰ·tail as tail, map-append}
+use lib.ListN.{length, take, drop, length-append, length-map}
 use lib.Seq.{drop-cons}
 use lib.IntN.{ℤ}
 use lib.Dec.{eqb, leb, ltb}
@@ -29,20 +29,20 @@ use Rattle.rule.proofs.Backward.{back-rising, back-alike, back-accepted}
 use Rattle.rule.proofs.Memory.{written-part}
 use Rattle.outline.specs.declared.Batch.{Batch}
 use Rattle.outline.specs.Inner.{firstKey, endOfKeys, keysOf, pointsOfKeys, climbsAfter, climbs, OddOnes, mostKeys, within, Gathers, batchOf, IsBatch}
-use Rattle.outline.proofs.Keys.{key-within, length-keys, keys-append, odd-keys, keys-points}
+use Rattle.outline.proofs.Keys.{key-within, odd-keys, keys-points}
 use Rattle.outline.proofs.Climbs.{climbs-unique}
 
 -- ---- The keys of a batch
 
 -- after a point, keys climb just as their points rise
 keys-climb-after : (p : Point) (ps : List Point) → ((q : Point) → In q (p ∷ ps) → pointInRange q ≡ true) → climbsAfter (keyOf p) (keysOf ps) ≡ risingAfter p ps
-unfolding climbsAfter keysOf risingAfter
+unfolding climbsAfter risingAfter
 keys-climb-after p [] range = refl
 keys-climb-after p (q ∷ ps) range = rw (key-order p q (range-fits p (range p (head refl))) (range-fits q (range q (tail (head refl)))), keys-climb-after q ps (λ r m. range r (tail m)))
 
 -- and so in a list
 keys-climb : (ps : List Point) → ((q : Point) → In q ps → pointInRange q ≡ true) → climbs (keysOf ps) ≡ rising ps
-unfolding climbs keysOf rising
+unfolding climbs rising
 keys-climb [] range = refl
 keys-climb (p ∷ ps) range = keys-climb-after p ps range
 
@@ -77,7 +77,7 @@ pub keys-next : (rs : List Rect) (i : ℕ) → i < length rs → keysOf (corners
 unfolding corners
 keys-next rs i h =
     let e : drop i rs ≡ rectAt rs i ∷ drop (suc i) rs = drop-cons rs i _ h in
-    rw (add-one, e) (keys-append (cornersOf (rectAt rs i)) (corners (drop (suc i) rs)))
+    rw (add-one, e) (map-append keyOf (cornersOf (rectAt rs i)) (corners (drop (suc i) rs)))
 
 -- once all have come, the keys kept that stand an odd number of times are the batch
 pub gathered : {rs : List Rect} {start asked count : ℕ} {b : Batch} {kept ks : List ℕ} → AcceptedRects rs → Gathers start asked b (keysOf (corners rs)) [] kept → OddOnes kept ks → count ≤ mostKeys → IsBatch (backList rs) start asked (record { count = count; end = b .end }) ks
@@ -157,7 +157,7 @@ module _ {rs : List Rect} (acc : AcceptedRects rs) where
     pub batch-listed : {listed : ℕ} → length ks ≡ b .count → listed ≡ length (batchOf firstKey start (backList rs)) → listed + b .count ≡ length (batchOf firstKey (b .end) (backList rs))
     batch-listed n e =
         let batch : List Point = batchOf start (b .end) (backList rs) in
-        omega (arith, length-append (batchOf firstKey start (backList rs)) batch, ap length batch-joins, ap length (t .keys), length-keys batch)
+        omega (arith, length-append (batchOf firstKey start (backList rs)) batch, ap length batch-joins, ap length (t .keys), length-map batch keyOf)
 
     -- its points, written into the part after those before, are written after them
     pub batch-written :

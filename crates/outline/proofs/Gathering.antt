@@ -149,7 +149,7 @@ pub corner-keys :
     (r : Rect) {left right top-left top-right : ℕ} → flat r ≡ false → rectInRange r ≡ true →
     left ≡ keyOf (cornerAt r false false) → right ≡ keyOf (cornerAt r true false) →
     top-left ≡ keyOf (cornerAt r false true) → top-right ≡ keyOf (cornerAt r true true) → CornerKeys r left right top-left top-right
-unfolding keysOf cornersOf
+unfolding cornersOf
 corner-keys r solid range a b c d = record { keys = rw (a, b, c, d); low = omega (arith, rises false); high = omega (arith, rises true) }
   where
     rises : (at-top : Bool) → keyOf (cornerAt r false at-top) < keyOf (cornerAt r true at-top)

@@ -1,16 +1,16 @@
 -- The keys of points in range, and of lists of points.
-use Prim.Native.Nat.{ℕ, suc, _<_, _≤_}
+use Prim.Native.Nat.{ℕ, _<_, _≤_}
 use native.Mathlib.Omega.{arith}
 use mathlib.Core.Path.{_≡_, refl, ap}
 use mathlib.Core.Bool.{Bool, true, xor}
-use mathlib.Core.List.{List, [], _∷_, _++_, List·Memᴰ as In, List·Memᴰ·head as head, List·Memᴰ·tail as tail}
-use lib.ListN.{length}
+use mathlib.Core.List.{List, [], _∷_, List·Memᴰ as In}
 use Rattle.plane.specs.declared.Point.{Point}
 use Rattle.plane.specs.Lists.{odd}
 use Rattle.plane.specs.Words.{inRange, pointInRange}
-use Rattle.plane.specs.Keys.{keyOf}
+use Rattle.plane.specs.Keys.{keyOf, pointOf}
 use Rattle.plane.proofs.Bools.{and-parts}
 use Rattle.plane.proofs.Order.{range-up}
+use Rattle.plane.proofs.Maps.{map-back}
 use Rattle.plane.proofs.Keys.{range-fits, point-raised, key-point}
 use Rattle.outline.specs.Inner.{firstKey, endOfKeys, keysOf, pointsOfKeys}
 
@@ -27,26 +27,12 @@ key-within p e =
 
 -- ---- Lists of points
 
--- as many keys as points
-pub length-keys : (ps : List Point) → length (keysOf ps) ≡ length ps
-unfolding keysOf
-length-keys [] = refl
-length-keys (p ∷ ps) = ap suc (length-keys ps)
-
--- the keys of points after points
-pub keys-append : (ps qs : List Point) → keysOf (ps ++ qs) ≡ keysOf ps ++ keysOf qs
-unfolding keysOf
-keys-append [] qs = refl
-keys-append (p ∷ ps) qs = ap (λ ks. keyOf p ∷ ks) (keys-append ps qs)
-
 -- the parity of a test over the keys
 pub odd-keys : (f : ℕ → Bool) (ps : List Point) → odd f (keysOf ps) ≡ odd (λ p. f (keyOf p)) ps
-unfolding keysOf odd
+unfolding odd
 odd-keys f [] = refl
 odd-keys f (p ∷ ps) = ap (xor (f (keyOf p))) (odd-keys f ps)
 
 -- the points of the keys of points in range are these
 pub keys-points : (ps : List Point) → ((q : Point) → In q ps → pointInRange q ≡ true) → pointsOfKeys (keysOf ps) ≡ ps
-unfolding keysOf pointsOfKeys
-keys-points [] range = refl
-keys-points (p ∷ ps) range = rw (key-point p (range-fits p (range p (head refl))), keys-points ps (λ q n. range q (tail n)))
+keys-points ps range = map-back keyOf pointOf ps (λ q m. key-point q (range-fits q (range q m)))

@@ -2,7 +2,7 @@
 use Prim.Native.Nat.{ℕ, _+_, _*_, _<_, _≤_}
 use mathlib.Core.Path.{_≡_}
 use mathlib.Core.Bool.{Bool, true, false, not, cond, _&&_, _||_, xor}
-use mathlib.Core.List.{List, [], _∷_, _++_}
+use mathlib.Core.List.{List, [], _∷_, _++_, map}
 use lib.ListN.{length, take}
 use lib.IntN.{ℤ, _+ℤ_}
 use lib.Dec.{eqb, leb, ltb}
@@ -39,14 +39,12 @@ abbrev pub endOfKeys : ℕ
 endOfKeys = 3_147_483_649 * rowStep
 
 -- the keys of points
-unfoldable pub keysOf : List Point → List ℕ
-keysOf [] = []
-keysOf (p ∷ ps) = keyOf p ∷ keysOf ps
+abbrev pub keysOf : List Point → List ℕ
+keysOf ps = map keyOf ps
 
 -- the points of keys
-unfoldable pub pointsOfKeys : List ℕ → List Point
-pointsOfKeys [] = []
-pointsOfKeys (k ∷ ks) = pointOf k ∷ pointsOfKeys ks
+abbrev pub pointsOfKeys : List ℕ → List Point
+pointsOfKeys ks = map pointOf ks
 
 -- a rectangle's corner, at its right or its left, at its top or its bottom
 abbrev pub cornerAt : Rect → (at-right at-top : Bool) → Point

@@ -1,9 +1,9 @@
--- Laws of `map`: the image at a place, a place stored to, the images before a place, sums, and a map undone by another.
+-- Laws of `map`: the image at a place, a place stored to, sums, and a map undone by another.
 use mathlib.Core.Path.{_≡_, refl, ap, ap₂}
 use Prim.Native.Nat.{ℕ, zero, suc, _+_, _<_}
 use native.Mathlib.Omega.{arith}
 use mathlib.Core.List.{List, [], _∷_, map, List·Memᴰ as In, List·Memᴰ·head as head, List·Memᴰ·tail as tail}
-use lib.ListN.{length, getD, take, set}
+use lib.ListN.{length, getD, set}
 use Rattle.plane.specs.Lists.{sum}
 
 module _ {A B : Type 0} where
@@ -18,12 +18,6 @@ module _ {A B : Type 0} where
   map-set f [] i a = refl
   map-set f (b ∷ l) zero a = refl
   map-set f (b ∷ l) (suc i) a = ap (λ m. f b ∷ m) (map-set f l i a)
-
-  -- the images before a place
-  pub map-take : (f : A → B) (i : ℕ) (l : List A) → map f (take i l) ≡ take i (map f l)
-  map-take f zero l = refl
-  map-take f (suc i) [] = refl
-  map-take f (suc i) (a ∷ l) = ap (λ m. f a ∷ m) (map-take f i l)
 
   -- a weight summed over the images
   pub sum-map : (w : B → ℕ) (f : A → B) (l : List A) → sum w (map f l) ≡ sum (λ a. w (f a)) l

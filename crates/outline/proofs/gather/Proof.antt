@@ -46,7 +46,7 @@ loop-again c =
     (search needs, o .offer-corners .kept .0 ∙ l .loop .inv .1, o .offer-corners .ensures .few, o .offer-corners .ensures .takes _ _ _ (rw (h, ← o .before .rect-at .ensures) at (l .loop .inv .3)))
 
 returns : tie.Need-returns Inv-loop μ-loop
-unfolding keysOf corners
+unfolding corners
 returns c =
     let o = c .before .before .before in
     let l = o .before .before .before in

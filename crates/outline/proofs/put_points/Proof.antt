@@ -1,12 +1,12 @@
 -- `outline::put_points` meets its contract. The invariant: the points of the first i keys are written.
-use Prim.Native.Nat.{ℕ, zero, suc, _+_, _-_, _<_, _≤_}
+use Prim.Native.Nat.{ℕ, suc, _+_, _-_, _<_, _≤_}
 use native.Mathlib.Numerals.{add-one}
 use native.Mathlib.Omega.{arith}
-use mathlib.Core.Path.{_≡_, refl, ap}
-use mathlib.Core.List.{List, [], _∷_, _++_}
-use lib.ListN.{length, getD, take, length-set}
+use mathlib.Core.Path.{_≡_, refl, ap, _∙_}
+use mathlib.Core.List.{List, [], _∷_, _++_, map-append}
+use lib.ListN.{length, getD, take, length-set, length-map}
+use lib.Seq.{take-suc, length-take-le}
 use borrow.Author.Needs.{needs}
-use Rattle.plane.specs.declared.Point.{Point}
 use Rattle.plane.specs.Words.{flatPoints}
 use Rattle.plane.specs.Keys.{pointOf}
 use Rattle.plane.proofs.Bits.{back}
@@ -19,17 +19,11 @@ use Rattle.outline.proofs.put_points.Tie as tie
 
 -- the first i keys have i points
 length-first : (ks : List ℕ) (i : ℕ) → i ≤ length ks → length (pointsOfKeys (take i ks)) ≡ i
-unfolding pointsOfKeys
-length-first ks zero h = refl
-length-first [] (suc i) h = absurd (omega arith)
-length-first (k ∷ ks) (suc i) h = ap suc (length-first ks i (omega arith))
+length-first ks i h = length-map (take i ks) pointOf ∙ length-take-le i ks h
 
 -- and one more with the next
 next-first : (ks : List ℕ) (i : ℕ) → i < length ks → pointsOfKeys (take (suc i) ks) ≡ pointsOfKeys (take i ks) ++ (pointOf (getD ks i 0) ∷ [])
-unfolding pointsOfKeys
-next-first [] i h = absurd (omega arith)
-next-first (k ∷ ks) zero h = refl
-next-first (k ∷ ks) (suc i) h = ap (λ (l : List Point). pointOf k ∷ l) (next-first ks i (omega arith))
+next-first ks i h = ap pointsOfKeys (take-suc ks i 0 h) ∙ map-append pointOf (take i ks) (getD ks i 0 ∷ [])
 
 abbrev Inv-loop : tie.InvT-loop
 Inv-loop keys n points₀ i₀ points i = (i ≤ n) × (length points ≡ length points₀) × (points ≡ written accepted (flatPoints (pointsOfKeys (take i keys))) points₀)
@@ -38,7 +32,7 @@ abbrev μ-loop : tie.MeasureT-loop
 μ-loop keys n points₀ i₀ points i = n - i
 
 loop-holds : tie.Need-loop-holds Inv-loop μ-loop
-unfolding flatPoints pointsOfKeys
+unfolding flatPoints
 loop-holds c = (search needs, refl, refl)
 
 loop-again : tie.Need-loop-again Inv-loop μ-loop

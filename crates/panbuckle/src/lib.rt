@@ -10,7 +10,7 @@ ghost use lib.IntN.{_-ℤ_};
 ghost use lib.Signed.{ltZ};
 ghost use lib.ListN.{length};
 ghost use Prim.Native.Nat.{_+_, _*_, _<_, _≤_};
-ghost use Rattle.plane.specs.Words.{origin, same, before};
+ghost use Rattle.plane.specs.Words.{origin, same, before, pointAt, pointsOf};
 ghost use Rattle.rule.specs.Rule.{firstOf, rightOf, placeOf, pickM, rectOf, toggle, toggleFour};
 ghost use Rattle.rule.specs.Answers.{workOf, stepChecks, StepAccepted, ForwardDone, StepDone};
 ghost use Rattle.rule.specs.Checks.{verdict};
@@ -25,7 +25,6 @@ pub use plane::MOST_RECTS;
 pub use plane::Point;
 pub use plane::Rect;
 use plane::origin;
-use plane::point_at;
 pub use rule::BackwardAnswer;
 pub use rule::COLUMN;
 pub use rule::DONE;
@@ -72,6 +71,17 @@ fn corner(p: Point, q: Point) -> Point
 }
 
 // ---- Points in an array
+
+// Without a test of the place in it, so that the scans of all the points run fast.
+fn point_at(a: &[i32], i: usize) -> Point
+    requires { ⌜ 2 * i + 1 < length (now a) ⌝ }
+    ensures { λ r. ⌜ r ≡ pointAt (pointsOf (now (a .entry))) i ⌝ }
+{
+    Point {
+        x: a[2 * i],
+        y: a[2 * i + 1],
+    }
+}
 
 fn put_point(a: &mut [i32], i: usize, p: Point)
     requires { ⌜ 2 * i + 1 < length (now a) ⌝ }

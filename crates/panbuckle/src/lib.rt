@@ -10,7 +10,7 @@ ghost use lib.IntN.{_-ℤ_};
 ghost use lib.Signed.{ltZ};
 ghost use lib.ListN.{length};
 ghost use Prim.Native.Nat.{_+_, _*_, _<_, _≤_};
-ghost use Rattle.plane.specs.Words.{origin, same, before, pointAt, pointsOf};
+ghost use Rattle.plane.specs.Words.{origin, same, pointAt, pointsOf};
 ghost use Rattle.rule.specs.Rule.{firstOf, rightOf, placeOf, pickM, rectOf, toggle, toggleFour};
 ghost use Rattle.rule.specs.Answers.{workOf, stepChecks, StepAccepted, ForwardDone, StepDone};
 ghost use Rattle.rule.specs.Checks.{verdict};
@@ -24,6 +24,7 @@ pub use plane::MOST_POINTS;
 pub use plane::MOST_RECTS;
 pub use plane::Point;
 pub use plane::Rect;
+use plane::comes_before;
 use plane::origin;
 pub use rule::BackwardAnswer;
 pub use rule::COLUMN;
@@ -47,13 +48,6 @@ fn same_point(p: Point, q: Point) -> bool
     ensures { λ r. ⌜ r ≡ same p q ⌝ }
 {
     (p.x == q.x) & (p.y == q.y)
-}
-
-// In the order of y, then x.
-fn comes_before(p: Point, q: Point) -> bool
-    ensures { λ r. ⌜ r ≡ before p q ⌝ }
-{
-    (p.y < q.y) | ((p.y == q.y) & (p.x < q.x))
 }
 
 // The one point where the test holds, and the other where not.

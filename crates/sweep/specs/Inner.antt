@@ -14,7 +14,7 @@ use Rattle.plane.specs.Lists.{bit, sum, sumBelow}
 use Rattle.plane.specs.Words.{eqZ, pointsOf, rectSize, foursOf, flatRects, rising, pointAt, mostPoints}
 use Rattle.rule.specs.declared.ForwardAnswer.{ForwardAnswer}
 use Rattle.rule.specs.Rule.{ruleList}
-use Rattle.rule.specs.Answers.{forwardSays, written, sumsOf}
+use Rattle.rule.specs.Answers.{forwardSays, written, sumsOf, forwardList}
 use Rattle.ordering.specs.Orders.{rowOrder, pointsAt}
 use Rattle.rule.specs.Checks.{Check, accepted, verdict}
 use Rattle.rule.specs.Rows.{LENGTH, MANY, WORK, pointChecks, Accepted}
@@ -313,4 +313,4 @@ pub record Ordered (a : List ℤ) (work : ℕ) (order : List ℕ) : Type 0 where
 pub record StandFor (a : List ℤ) (work : ℕ) (order : List ℕ) : Type 0 where
   pub ready : Ready (sweptPoints a order) work
   pub as-many : length order ≡ length a / 2
-  pub same-list : ruleList (sweptPoints a order) ≡ ruleList (pointsOf a)
+  pub same-list : ruleList (sweptPoints a order) ≡ forwardList a

@@ -240,7 +240,7 @@ fn cancel(mut z: Sweep) -> Sweep
 
 // The nearer of the point and the right end carried is taken.
 fn taken(mut z: Sweep, t: Point) -> Sweep
-    requires { ⌜ z .next ≤ 4096 ⌝ }
+    requires { ⌜ z .next ≤ mostPoints ⌝ }
     ensures { λ r. ⌜ r ≡ takenFrom z t ⌝ }
 {
     if is_before_carried(z, t) {
@@ -275,7 +275,7 @@ fn new_live(z: Sweep, v: Point) -> Live
 
 // An end on the row: it opens a rectangle, or closes the one that is open.
 fn put_end(work: &mut [i32], mut z: Sweep, v: Point) -> Sweep
-    requires { ⌜ (z .given ≤ 16_777_216) × (z .passed < 4096) × (liveSize * (z .passed + 1) ≤ length (now work)) ⌝ }
+    requires { ⌜ (z .given ≤ mostBegun) × (z .passed < mostPoints) × (liveSize * (z .passed + 1) ≤ length (now work)) ⌝ }
     ensures { λ r. ⌜ r ≡ endPut z v ⌝ }
     ensures { λ r. ⌜ now (work .exit) ≡ endPutWork (now (work .entry)) z v ⌝ }
 {

@@ -179,6 +179,11 @@ def one_point(_):
     return [(0, 0)] * MOST
 
 
+def equal_but_last(_):
+    """One point again and again, and last one that comes before it: no split parts equal points, so that the heap takes over at full depth."""
+    return [(1, 1)] * (MOST - 1) + [(0, 0)]
+
+
 def bad_order(count):
     """Numbers in an order in which the middle of three is, at each split, nearly the least of all, as long as the sort splits."""
     places, numbers = list(range(count)), [0] * count
@@ -202,6 +207,7 @@ REFUSED = {
     "odd_column_last_of_bars": (lambda _: odd_line_last("tall_bars", 0), 7),
     "one_row": (one_row, 7),
     "one_point": (one_point, 5),
+    "equal_but_last": (equal_but_last, 5),
     "splits_badly": (splits_badly, 6),
 }
 

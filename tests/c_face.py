@@ -21,7 +21,7 @@ from pairs import FOLDERS, input_of
 
 HEADER = ROOT / "include" / "panbuckle.h"
 SOURCE = ROOT / "crates" / "panbuckle_c" / "src" / "lib.rt"
-NUMBERS = [ROOT / "crates" / name / "src" / "lib.rt" for name in ("rule", "panbuckle", "outline")]
+LIMITS = ROOT / "crates" / "plane" / "src" / "lib.rt"
 COMPILER = "gcc" if NATIVE else "x86_64-linux-gnu-gcc"
 WORDS = ["-std=c11", "-O2", "-Wall", "-Wextra", "-Wpedantic", "-Werror", "-static"]
 # A linker that is told so drops what no call leads to.
@@ -42,7 +42,7 @@ C_TYPES = {"u32": "uint32_t", "usize": "size_t", "&[i32]": "const int32_t *", "&
 FIXED = re.compile(r"&mut \[(i32|u64); (\d+)\]")
 FUNCTION = re.compile(r'pub extern "C" fn (\w+)\(([^)]*)\) -> (\w+)')
 CONSTANT = re.compile(r"^pub const (\w+): \w+ = (\d+);", re.MULTILINE)
-DEFINED = re.compile(r"^    PANBUCKLE_(\w+) = (\d+)", re.MULTILINE)
+DEFINED = re.compile(r"^    PANBUCKLE_(MOST_\w+) = (\d+)", re.MULTILINE)
 DECLARED = re.compile(r"^((?:PANBUCKLE_ACCESS\(.*\)\n)?)(\w+ panbuckle_\w+\([^)]*\));", re.MULTILINE)
 RUST_DECLARED = re.compile(r"pub fn (panbuckle_\w+\([^)]*\) -> \w+);")
 ACCESS = re.compile(r"PANBUCKLE_ACCESS\((\w+), (\d+), (\d+)\)")
@@ -120,17 +120,15 @@ def access_faults(header):
 
 
 def header_faults(header):
-    """For each function and each number of the header what is wrong with it, or None."""
+    """For each function of the header, its limits and its version what is wrong, or None. Its answers are judged by tests/refusals.py."""
     source = SOURCE.read_text(encoding="utf-8")
     ours = [text for text, _ in declarations(header)]
     theirs = sorted(f"{C_TYPES[result]} {name}({listed or 'void'})" for name, listed, result in exported(source, c_parameters))
     yield None if ours and ours == theirs else f"the header declares {ours}, and the source exports {theirs}"
     yield from access_faults(header)
-    constants = dict(pair for file in NUMBERS for pair in CONSTANT.findall(file.read_text(encoding="utf-8")))
-    defined = dict(DEFINED.findall(header))
-    for name, number in constants.items():
-        if name != "TEXT":
-            yield None if defined.get(name) == number else f"{name} is {number}, and in the header {defined.get(name)}"
+    limits = [pair for pair in CONSTANT.findall(LIMITS.read_text(encoding="utf-8")) if pair[0].startswith("MOST_")]
+    defined = DEFINED.findall(header)
+    yield None if limits and limits == defined else f"the limits are {limits}, and in the header {defined}"
     versions = {*VERSION.findall(header), dict(CONSTANT.findall(source)).get("VERSION"), *re.findall(r"panbuckle_version_(\d+)", header)}
     yield None if len(versions) == 1 else f"there is not one version but {versions}"
 

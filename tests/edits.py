@@ -5,7 +5,8 @@ could not be proved is NAME in FILE, and no error is one of scope, syntax or sha
 
 Edits stand in two places, in the same form:
 
-- crates/CRATE/must-fail/: the run of `rt ci` before has tried them, and their logs are judged here. A crate of code has at most two, but for `plane`;
+- crates/CRATE/must-fail/: the run of `rt ci` before has tried them, and their logs are judged here. A crate of code has at most two, but
+  for `plane` and `entry`;
 - tests/edits/CRATE/: tests/try_edits.py tries them when their crate changes. tests/edits/RECORD has a line 'CRATE/NAME HASH HASH' for
   each: the hash of the crate's src/, specs/ and proofs/ and that of the edit, when it was last refused at its fact. Nothing is proved
   here: no line may be missing, stale or of no edit.
@@ -35,7 +36,7 @@ FUNCTION = re.compile(r"\bfn \w+\(")
 # An edit of a crate of code takes the gate up to a minute: so many of each crate are tried there. The functions of these are few and
 # short, and take seconds.
 MOST_IN_GATE = 2
-QUICK = ("plane",)
+QUICK = ("plane", "entry")
 KEPT = "tests/edits"
 RECORD = f"{KEPT}/RECORD"
 # What the refusal of an edit rests on in its crate, and how many digits of a hash tell it from others.

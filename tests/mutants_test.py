@@ -223,7 +223,7 @@ class Choice(unittest.TestCase):
 
     def test_every_crate_that_has_code(self):
         crates = {mutant.crate for mutant in self.chosen}
-        self.assertEqual(set(crates_of(ROOT)) - crates, {"live"})
+        self.assertEqual(set(crates_of(ROOT)) - crates, {"live", "rule"})
 
     def test_the_same_each_time(self):
         again = chosen(all_mutants(ROOT), SCRIPT.COUNT, SCRIPT.SEED)
@@ -235,7 +235,7 @@ class Choice(unittest.TestCase):
         more = chosen(self.mutants, SCRIPT.COUNT, SCRIPT.SEED, stillborn)
         living = [mutant for mutant in more if mutant.name not in stillborn]
         self.assertEqual(len(living), SCRIPT.COUNT)
-        self.assertLessEqual({mutant.name for mutant in self.chosen if mutant.item == "rule/DONE"}, {mutant.name for mutant in more})
+        self.assertLessEqual({mutant.name for mutant in self.chosen if mutant.item == "entry/DONE"}, {mutant.name for mutant in more})
 
     def test_as_many_as_there_are(self):
         self.assertEqual(chosen(self.mutants, 10**6, SCRIPT.SEED), self.mutants)

@@ -1,4 +1,3 @@
-pub mod Screens
 pub mod Neighbours
 pub mod Clear
 pub mod Kept

@@ -7,6 +7,7 @@ use lib.ListN.{length, take}
 use lib.Dec.{leb}
 use borrow.Author.Tests.{le-leb}
 use Rattle.plane.proofs.Bools.{cond-true}
+use Rattle.plane.proofs.Outcomes.{one-outcome}
 use Rattle.numerals.proofs.Putting.{pasted-length, pasted-front}
 use Rattle.drawing.specs.Picture.{pictureOf, Drawn}
 use Rattle.drawing.proofs.Longest.{picture-fits}
@@ -20,3 +21,7 @@ draws-all {t} {out} d room =
     let fits = picture-fits t in
     let long = pasted-length out 0 (pictureOf t) (omega arith) in
     rw (size, output) (pasted-front out (pictureOf t), omega arith, long)
+
+-- there is no second outcome
+pub picture-one-outcome : {t out : List ℕ} {r s : ℕ} {o p : List ℕ} → Drawn t out r o → Drawn t out s p → (r ≡ s) × (o ≡ p)
+picture-one-outcome d e = (one-outcome (d .size) (e .size), one-outcome (d .output) (e .output))

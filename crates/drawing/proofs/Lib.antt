@@ -5,4 +5,3 @@ pub mod Parts
 pub mod Shown
 pub mod Longest
 pub mod Kept
-pub mod Outcomes

@@ -7,8 +7,8 @@ use lib.ListN.{length, length-append}
 use Rattle.plane.specs.declared.Point.{Point}
 use Rattle.plane.specs.declared.Rect.{Rect}
 use Rattle.plane.specs.Words.{flatPoints, mostPoints}
-use Rattle.rule.specs.Checks.{Verdict, accepted, refused, verdict}
-use Rattle.rule.specs.Answers.{Sums}
+use Rattle.entry.specs.Checks.{Verdict, accepted, refused, verdict}
+use Rattle.rule.specs.ForwardCall.{Sums}
 use Rattle.reading.specs.Reading.{pointsRead, textChecks}
 use Rattle.reading.proofs.Kept.{lines-are-points, lines-few}
 use Rattle.text.specs.declared.Report.{Report}

@@ -11,7 +11,7 @@ use Rattle.plane.specs.declared.Rect.{Rect}
 use Rattle.plane.specs.Words.{pointAt, rectAt}
 use Rattle.plane.specs.Keys.{raised}
 use Rattle.plane.proofs.Bools.{cond-case}
-use Rattle.rule.specs.Answers.{Sums}
+use Rattle.rule.specs.ForwardCall.{Sums}
 use Rattle.numerals.specs.Inner.{Wrote}
 use Rattle.numerals.proofs.Writing.{wrote-length}
 use Rattle.text.specs.declared.Report.{Report}

@@ -3,7 +3,6 @@ use Prim.Native.Nat.{ℕ, _*_, _^_, _≤_, _<_}
 use native.Mathlib.Nat.{zero-add}
 use native.Mathlib.Omega.{arith}
 use mathlib.Core.Path.{_≡_, refl, ap, _∙_}
-use mathlib.Core.Logic.{_≢_}
 use mathlib.Core.Bool.{Bool, true, false}
 use mathlib.Core.List.{List}
 use lib.ListN.{length, take}
@@ -15,15 +14,16 @@ use Rattle.plane.specs.declared.Point.{Point}
 use Rattle.plane.specs.declared.Rect.{Rect}
 use Rattle.plane.specs.Words.{pointsOf, flatPoints, rectsOf, flatRects, mostPoints}
 use Rattle.plane.proofs.Arrays.{points-flat, rects-append}
+use Rattle.entry.specs.declared.Counted.{Counted}
+use Rattle.entry.specs.Entry.{written}
+use Rattle.entry.specs.Checks.{Verdict, accepted, refused, verdict}
 use Rattle.rule.specs.declared.ForwardAnswer.{ForwardAnswer}
-use Rattle.rule.specs.Answers.{written, forwardSays, forwardAnswer, forwardOut, forwardChecks, ForwardDone, forwardList, Sums, sumsTold, forwardSums, listOf}
-use Rattle.rule.specs.Checks.{Verdict, accepted, refused, verdict}
-use Rattle.rule.proofs.Refusals.{forward-accepted}
+use Rattle.rule.specs.ForwardCall.{forwardSays, forwardAnswer, forwardOut, forwardChecks, ForwardDone, forwardList, Sums, sumsTold, forwardSums, listOf}
+use Rattle.rule.proofs.ForwardCall.{forward-accepted}
 use Rattle.rule.proofs.Demands.{forward-sums-fit}
 use Rattle.numerals.specs.Inner.{Wrote}
-use Rattle.reading.specs.declared.ReadAnswer.{ReadAnswer}
-use Rattle.reading.specs.Reading.{pointsRead, readChecks, readSays, readAnswer, ReadDone}
-use Rattle.reading.proofs.Kept.{read-done, read-refused}
+use Rattle.reading.specs.Reading.{ReadDone}
+use Rattle.reading.proofs.Kept.{read-kept, read-done, read-refused}
 use Rattle.text.specs.Program.{mostWork, mostList, programReport, mostListed}
 use Rattle.drawing.specs.Picture.{svgOf, shown, pointsShown, listShown, sumsShown, pictureOf, Drawn}
 
@@ -80,25 +80,21 @@ list-made {a} {work} {out} {r} {out-after = after} d w o =
 -- ---- The points
 
 -- what the reader leaves, with room for every text that is accepted: the points shown
-pub record Read (t : List ℕ) (r : ReadAnswer) (out-after : List ℤ) : Type 0 where
+pub record Read (t : List ℕ) (r : Counted) (out-after : List ℤ) : Type 0 where
   pub few : r .count ≤ mostPoints
   pub fits : 2 * r .count ≤ length out-after
   pub numbers : take (2 * r .count) out-after ≡ flatPoints (pointsShown t)
 
-pub points-read : {t : List ℕ} {out : List ℤ} {r : ReadAnswer} {after : List ℤ} → ReadDone t out r after → mostWork ≤ length out → Read t r after
-unfolding pointsShown readAnswer flatPoints
-points-read {t} {out} {r} {after} d room = go (eqb (r .answer) 0) refl
+pub points-read : (t : List ℕ) {out : List ℤ} {r : Counted} {after : List ℤ} → ReadDone t out r after → mostWork ≤ length out → Read t r after
+unfolding pointsShown flatPoints
+points-read t {out} {r} {after} d room = go (eqb (r .answer) 0) refl
   where
-    none : (v : Verdict) → readSays v (pointsRead t) .answer ≢ 0 → readSays v (pointsRead t) .count ≡ 0
-    none accepted n = absurd (n refl)
-    none (refused k p) n = refl
-
     go : (b : Bool) → eqb (r .answer) 0 ≡ b → Read t r after
-    go true e = let h = read-done d (eqb-true (r .answer) 0 e) in record { few = h .few; fits = h .fits; numbers = rw (h .accepts) (h .numbers) }
+    go true e = let h = read-done t d (eqb-true (r .answer) 0 e) in record { few = h .few; fits = h .fits; numbers = rw (h .accepts) (h .numbers) }
     go false e =
         let n = eqb-false (r .answer) 0 e in
-        let z : r .count ≡ 0 = rw (d .answer) (none (verdict (readChecks t (length out))) (rw (d .answer) at n)) in
-        record { few = omega arith; fits = omega arith; numbers = rw (z, read-refused d room n) }
+        let z = read-kept t d .refused-count n in
+        record { few = omega arith; fits = omega arith; numbers = rw (z, read-refused t d room n) }
 
 -- ---- The picture
 

@@ -8,11 +8,13 @@ use lib.IntN.{ℤ}
 use lib.Dec.{eqb, leb}
 use Rattle.plane.specs.declared.Point.{Point}
 use Rattle.plane.specs.declared.Rect.{Rect}
+use Rattle.plane.specs.Lists.{atStart}
 use Rattle.plane.specs.Words.{flatPoints}
 use Rattle.plane.specs.Keys.{raised}
-use Rattle.rule.specs.Checks.{Verdict, accepted, refused, verdict}
-use Rattle.rule.specs.Answers.{forwardChecks, Sums, sumsTold, forwardList, forwardAnswer}
-use Rattle.numerals.specs.Bytes.{ascii, pasted}
+use Rattle.entry.specs.Entry.{ifAccepted}
+use Rattle.entry.specs.Checks.{Verdict, refused, verdict}
+use Rattle.rule.specs.ForwardCall.{forwardChecks, Sums, sumsTold, forwardList, forwardAnswer}
+use Rattle.numerals.specs.Bytes.{ascii}
 use Rattle.numerals.specs.Numerals.{decimal}
 use Rattle.reading.specs.Reading.{pointsRead, textChecks}
 use Rattle.text.specs.declared.Report.{Report}
@@ -108,8 +110,7 @@ svgOf ps rs s r =
 
 -- what is shown of points or rectangles: all that are accepted, none of what is refused
 abbrev pub shown : {A : Type 0} → Verdict → List A → List A
-shown accepted xs = xs
-shown (refused k p) xs = []
+shown v xs = ifAccepted v xs []
 
 -- the points shown: none, if the text is refused
 unfoldable pub pointsShown : List ℕ → List Point
@@ -134,4 +135,4 @@ pictureOf t =
 -- the picture's size, and the output afterwards with the picture at its start; with less room than the largest needs nothing is drawn
 pub record Drawn (t out : List ℕ) (r : ℕ) (out-after : List ℕ) : Type 0 where
   pub size : r ≡ cond (leb 800_000 (length out)) (length (pictureOf t)) 0
-  pub output : out-after ≡ cond (leb 800_000 (length out)) (pasted out 0 (pictureOf t)) out
+  pub output : out-after ≡ cond (leb 800_000 (length out)) (atStart (pictureOf t) out) out

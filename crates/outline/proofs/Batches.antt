@@ -12,7 +12,7 @@ use lib.Dec.{eqb, leb, ltb}
 use borrow.Author.Tests.{ltb-true, ltb-false, lt-ltb, le-ltb, le-leb, lt-leb}
 use Rattle.plane.specs.declared.Point.{Point}
 use Rattle.plane.specs.declared.Rect.{Rect}
-use Rattle.plane.specs.Lists.{odd, only}
+use Rattle.plane.specs.Lists.{odd, only, atStart}
 use Rattle.plane.specs.Words.{flatPoints, cornersOf, pointInRange, risingAfter, rising, rectAt}
 use Rattle.plane.specs.Keys.{keyOf}
 use Rattle.plane.proofs.Bools.{and-make, xor-false, false-xor}
@@ -21,12 +21,10 @@ use Rattle.plane.proofs.Parity.{odd-none-of, odd-only}
 use Rattle.plane.proofs.Rising.{rising-before, rising-rest, only-rising}
 use Rattle.plane.proofs.Arrays.{length-flat-points, flat-append}
 use Rattle.plane.proofs.Keys.{key-order, range-fits}
+use Rattle.plane.proofs.AtStart.{start-part}
 use Rattle.rule.specs.Back.{corners, backList}
-use Rattle.rule.specs.Answers.{written}
-use Rattle.rule.specs.Checks.{accepted}
 use Rattle.rule.specs.Rows.{AcceptedRects}
 use Rattle.rule.proofs.Backward.{back-rising, back-alike, back-accepted}
-use Rattle.rule.proofs.Memory.{written-part}
 use Rattle.outline.specs.declared.Batch.{Batch}
 use Rattle.outline.specs.Inner.{firstKey, endOfKeys, keysOf, pointsOfKeys, climbsAfter, climbs, OddOnes, mostKeys, within, Gathers, batchOf, IsBatch}
 use Rattle.outline.proofs.Keys.{key-within, odd-keys, keys-points}
@@ -162,12 +160,12 @@ module _ {rs : List Rect} (acc : AcceptedRects rs) where
     -- its points, written into the part after those before, are written after them
     pub batch-written :
         (out : List ℤ) {listed : ℕ} {points part : List ℤ} → listed ≡ length (batchOf firstKey start (backList rs)) →
-        points ≡ written accepted (flatPoints (batchOf firstKey start (backList rs))) out →
+        points ≡ atStart (flatPoints (batchOf firstKey start (backList rs))) out →
         let n = length points - 2 * listed in
-        part ≡ written accepted (flatPoints (pointsOfKeys ks)) (take n (drop (2 * listed) points)) →
-        take (2 * listed) points ++ (part ++ drop n (drop (2 * listed) points)) ≡ written accepted (flatPoints (batchOf firstKey (b .end) (backList rs))) out
+        part ≡ atStart (flatPoints (pointsOfKeys ks)) (take n (drop (2 * listed) points)) →
+        take (2 * listed) points ++ (part ++ drop n (drop (2 * listed) points)) ≡ atStart (flatPoints (batchOf firstKey (b .end) (backList rs))) out
     batch-written out {listed} e w p =
         let before : List Point = batchOf firstKey start (backList rs) in
         let batch : List Point = batchOf start (b .end) (backList rs) in
         rw (p, t .keys, keys-points batch (batch-range acc start (b .end)), w, ← batch-joins, flat-append before batch)
-        (written-part (flatPoints before) (flatPoints batch) out (2 * listed) (omega (arith, length-flat-points before)))
+        (start-part (flatPoints before) (flatPoints batch) out (2 * listed) (omega (arith, length-flat-points before)))

@@ -1,80 +1,55 @@
--- The customer's demands, of whatever meets the contract of backward: of the answer that the caller gets, and of the lent array as the
--- caller finds it afterwards.
-use mathlib.Core.Path.{_≡_, refl}
-use mathlib.Core.Logic.{_≢_, _↔_}
-use Prim.Native.Nat.{ℕ, suc, _*_}
+-- The customer's second demand, of whatever meets the contract of backward: of the answer that the caller gets, and of the lent array as the
+-- caller finds it afterwards. The first is `backward-kept`, in the crate `rule`.
+use mathlib.Core.Path.{_≡_}
+use Prim.Native.Nat.{_*_}
 use mathlib.Core.Bool.{true}
 use mathlib.Core.List.{List}
 use lib.ListN.{length, take, drop}
-use lib.Seq.{take-append-seam, drop-append-seam}
 use lib.IntN.{ℤ}
 use Rattle.plane.specs.declared.Point.{Point}
-use Rattle.plane.specs.Lists.{any, odd}
+use Rattle.plane.specs.Lists.{any, odd, Starts}
 use Rattle.plane.specs.Words.{same, rising, holds, marks, flatPoints, rectsOf}
-use Rattle.plane.proofs.Arrays.{points-append, length-flat-points}
-use Rattle.rule.specs.declared.BackwardAnswer.{BackwardAnswer}
-use Rattle.rule.specs.Back.{oddCorner, backList}
-use Rattle.rule.specs.Answers.{written, backwardSays, backwardAnswer, backwardOut, backwardChecks, BackwardDone, pointsListed}
-use Rattle.rule.specs.Checks.{FirstGiven, verdict, accepted}
-use Rattle.rule.proofs.Refusals.{backward-refuses, backward-accepts-exactly, backward-accepted}
-use Rattle.rule.proofs.Memory.{backward-done-place, backward-refused-rest, backward-refused-out, backward-out-length}
+use Rattle.plane.proofs.AtStart.{points-layout, first-numbers, past-numbers, first-items}
+use Rattle.entry.specs.declared.Counted.{Counted}
+use Rattle.entry.specs.Checks.{verdict, accepted}
+use Rattle.rule.specs.Back.{oddCorner}
+use Rattle.rule.specs.BackwardCall.{backwardPoints, backwardAnswer, backwardChecks, BackwardDone, pointsListed}
+use Rattle.rule.proofs.BackwardCall.{backward-accepts, backward-accepted, backward-kept}
 use Rattle.rule.proofs.Backward.{back-points, back-rising, back-marks}
-
--- ---- Demand 1: for every input points or a numbered refusal, each exactly when its rule says so, and the output is then untouched
-
-module _ {a out : List ℤ} {r : BackwardAnswer} {out-after : List ℤ} (d : BackwardDone a out r out-after) where
-  -- backward answers a refusal's number and place exactly when that row of the table is the first given, at that place
-  pub refused-exactly-when : (k p : ℕ) → ((r .answer ≡ suc k) × (r .place ≡ p)) ↔ FirstGiven (backwardChecks a (length out)) (suc k) p
-  refused-exactly-when = rw (d .answer) (backward-refuses a (length out))
-
-  -- on any refusal the output is unchanged, and the count is 0
-  pub refused-untouched : r .answer ≢ 0 → (out-after ≡ out) × (r .count ≡ 0)
-  refused-untouched = rw (d .answer, d .output) (λ n. (backward-refused-out a out n, backward-refused-rest a (length out) n))
-
-  -- the output keeps its length
-  pub length-kept : length out-after ≡ length out
-  length-kept = rw (d .output) (backward-out-length a out)
-
-  -- on 0 the place is 0
-  pub done-place : r .answer ≡ 0 → r .place ≡ 0
-  done-place = rw (d .answer) (backward-done-place a (length out))
 
 -- ---- Demand 2: going back, exactly the points that are a corner of an odd number of the rectangles, in order
 
-module _ {a out : List ℤ} {r : BackwardAnswer} {out-after : List ℤ} (d : BackwardDone a out r out-after) (done : r .answer ≡ 0) where
+module _ (a : List ℤ) {out : List ℤ} {r : Counted} {out-after : List ℤ} (d : BackwardDone a out r out-after) (done : r .answer ≡ 0) where
   -- 0 is what the definition answers
   pub answers-0 : backwardAnswer a (length out) .answer ≡ 0
   answers-0 = rw (d .answer) at done
 
   -- the checks accept
   checks-accept : verdict (backwardChecks a (length out)) ≡ accepted
-  checks-accept = backward-accepts-exactly a (length out) .0 answers-0
+  checks-accept = backward-accepts a (length out) .0 answers-0
 
-  -- the answer is that of the points
-  answers-points : r ≡ backwardSays accepted (backList (rectsOf a))
-  unfolding backwardAnswer
-  answers-points = rw (d .answer, checks-accept)
+  -- the output starts with the points, and they are counted
+  starts : Starts (flatPoints (backwardPoints a)) out out-after
+  starts = backward-kept a d .leaves .done-starts done
 
-  -- the output is that of the points
-  writes-points : out-after ≡ written accepted (flatPoints (backList (rectsOf a))) out
-  unfolding backwardOut
-  writes-points = rw (d .output, checks-accept)
+  counted : r .count ≡ length (backwardPoints a)
+  counted = backward-kept a d .done-count done
 
-  -- on 0 the output holds the points at its start
-  pub done-points : pointsListed r out-after ≡ backList (rectsOf a)
-  done-points = let ps = backList (rectsOf a) in rw (answers-points, writes-points, points-append ps (drop (length (flatPoints ps)) out)) (take-append-seam ps _)
-
-  -- as numbers they are its first ones, two for each point counted
-  pub done-numbers : take (2 * r .count) out-after ≡ flatPoints (backList (rectsOf a))
-  done-numbers = let ps = backList (rectsOf a) in rw (answers-points, writes-points, ← length-flat-points ps) (take-append-seam (flatPoints ps) _)
+  -- as numbers the points are the output's first ones
+  pub done-numbers : take (2 * r .count) out-after ≡ flatPoints (backwardPoints a)
+  done-numbers = first-numbers points-layout (backwardPoints a) counted starts
 
   -- and it is otherwise unchanged
   pub done-rest : drop (2 * r .count) out-after ≡ drop (2 * r .count) out
-  done-rest = let ps = backList (rectsOf a) in rw (answers-points, writes-points, ← length-flat-points ps) (drop-append-seam (flatPoints ps) _)
+  done-rest = past-numbers points-layout (backwardPoints a) counted starts
+
+  -- on 0 the output holds the points at its start
+  pub done-points : pointsListed r out-after ≡ backwardPoints a
+  done-points = first-items points-layout (backwardPoints a) counted starts
 
   -- the count is of the points written, each once, in order of y, then x
   pub done-rising : let points = pointsListed r out-after in (r .count ≡ length points) × (rising points ≡ true)
-  done-rising = rw (done-points, answers-points) (refl, back-rising (rectsOf a))
+  done-rising = rw done-points (counted, back-rising (rectsOf a))
 
   -- a point is written exactly when it is a corner of an odd number of the rectangles
   pub done-corners : (p : Point) → any (same p) (pointsListed r out-after) ≡ oddCorner (rectsOf a) p

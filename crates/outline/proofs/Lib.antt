@@ -1,4 +1,3 @@
-pub mod Checks
 pub mod Keys
 pub mod Climbs
 pub mod Cancelling

@@ -11,7 +11,7 @@ use Rattle.plane.specs.declared.Rect.{Rect}
 use Rattle.plane.specs.Lists.{odd, only}
 use Rattle.plane.specs.Words.{inRange, rectInRange, flat, right, top, rectAt}
 use Rattle.plane.specs.Keys.{keyOf, pointOf, rowStep}
-use Rattle.rule.specs.Checks.{Check, each}
+use Rattle.entry.specs.Checks.{firstBad}
 use Rattle.outline.specs.declared.Batch.{Batch}
 
 -- ---- Checks
@@ -24,9 +24,9 @@ spansRange near by = inRange near && inRange (near +ℤ by)
 abbrev pub rectOffends : (number : ℕ) → Rect → Bool
 rectOffends number r = cond (eqb number 9) (flat r) (not (rectInRange r))
 
--- the check with this number
-abbrev pub rectCheck : (number : ℕ) → List Rect → Check
-rectCheck number rs = each number (length rs) (λ i. rectOffends number (rectAt rs i))
+-- the place of the first rectangle that does, and their number where none does
+abbrev pub firstOffender : (number : ℕ) → List Rect → ℕ
+firstOffender number rs = firstBad (length rs) (λ i. rectOffends number (rectAt rs i))
 
 -- ---- Keys
 

@@ -6,16 +6,23 @@
 ghost use mathlib.Core.Path.{_≡_};
 ghost use mathlib.Core.Bool.{cond, true, false};
 ghost use mathlib.Core.List.{[], _∷_};
-ghost use mathlib.Core.Option.{Option·getD};
 ghost use lib.ListN.{length, take};
 ghost use Prim.Native.Nat.{_+_, _*_, _/_, _<_, _≤_};
-ghost use Rattle.plane.specs.Words.{rectInRange, flat, cornersOf, rectsOf, flatPoints, rectSize};
+ghost use Rattle.plane.specs.Lists.{atStart};
+ghost use Rattle.plane.specs.Words.{rectInRange, flat, cornersOf, rectsOf, flatPoints};
 ghost use Rattle.plane.specs.Sorted.{sorted};
 ghost use Rattle.rule.specs.Back.{backList};
-ghost use Rattle.rule.specs.Answers.{written, BackwardAccepted, BackwardDone};
-ghost use Rattle.rule.specs.Checks.{accepted, placeGiven};
+ghost use Rattle.rule.specs.BackwardCall.{backwardPoints, BackwardAccepted, BackwardDone};
 ghost use Rattle.rule.specs.Rows.{AcceptedRects};
-ghost use Rattle.outline.specs.Inner.{spansRange, rectOffends, rectCheck, keysOf, pointsOfKeys, endOfKeys, cornerAt, misses, endsWith, OddOnes, mostKeys, Takes, RoomMade, IsBatch};
+ghost use Rattle.outline.specs.Inner.{spansRange, rectOffends, firstOffender, keysOf, pointsOfKeys, endOfKeys, cornerAt, misses, endsWith, OddOnes, mostKeys, Takes, RoomMade, IsBatch};
+use entry::Counted;
+use entry::FLAT;
+use entry::LENGTH;
+use entry::MANY;
+use entry::RANGE;
+use entry::ROOM;
+use entry::done;
+use entry::refusal;
 use plane::HIGH_END;
 use plane::LOW_END;
 use plane::MOST_RECTS;
@@ -26,13 +33,6 @@ use plane::Rect;
 use plane::key_of;
 use plane::point_of;
 use plane::rect_at;
-use rule::BackwardAnswer;
-use rule::DONE;
-use rule::FLAT;
-use rule::LENGTH;
-use rule::MANY;
-use rule::RANGE;
-use rule::ROOM;
 
 // ---- Checks
 
@@ -75,7 +75,7 @@ fn is_bad(number: u32, r: Rect) -> bool
 
 // The place of the first rectangle that offends, and their number where none does.
 fn first_bad(rects: &[i32], number: u32) -> usize
-    ensures { λ r. ⌜ r ≡ Option·getD (placeGiven (rectCheck number (rectsOf (now (rects .entry))))) (length (now (rects .entry)) / rectSize) ⌝ }
+    ensures { λ r. ⌜ r ≡ firstOffender number (rectsOf (now (rects .entry))) ⌝ }
 {
     let n = rects.len() / RECT_SIZE;
     let mut i = 0;
@@ -246,7 +246,7 @@ fn gather(rects: &[i32], keys: &mut [u64], start: u64, end: u64) -> Batch
 // Writes the points of the first n keys.
 fn put_points(keys: &[u64], n: usize, points: &mut [i32])
     requires { ⌜ (n ≤ length (now keys)) × (2 * n ≤ length (now points)) ⌝ }
-    ensures { λ r. ⌜ now (points .exit) ≡ written accepted (flatPoints (pointsOfKeys (take n (now (keys .entry))))) (now (points .entry)) ⌝ }
+    ensures { λ r. ⌜ now (points .exit) ≡ atStart (flatPoints (pointsOfKeys (take n (now (keys .entry))))) (now (points .entry)) ⌝ }
 {
     let mut i = 0;
     while i < n {
@@ -277,7 +277,7 @@ fn list_points(rects: &[i32], keys: &mut [u64], points: &mut [i32], writes: bool
     requires { ⌜ mostKeys ≤ length (now keys) ⌝ }
     requires { ⌜ (writes ≡ true → 2 * length (backList (rectsOf (now rects))) ≤ length (now points)) ⌝ }
     ensures { λ r. ⌜ r ≡ length (backList (rectsOf (now (rects .entry)))) ⌝ }
-    ensures { λ r. ⌜ now (points .exit) ≡ cond writes (written accepted (flatPoints (backList (rectsOf (now (rects .entry))))) (now (points .entry))) (now (points .entry)) ⌝ }
+    ensures { λ r. ⌜ now (points .exit) ≡ cond writes (atStart (flatPoints (backList (rectsOf (now (rects .entry))))) (now (points .entry))) (now (points .entry)) ⌝ }
 {
     let mut start = START;
     let mut end = END;
@@ -296,58 +296,43 @@ fn list_points(rects: &[i32], keys: &mut [u64], points: &mut [i32], writes: bool
     listed
 }
 
-// An answer that is a refusal.
-fn no_points(answer: u32, place: u64) -> BackwardAnswer
-    ensures { λ r. ⌜ r ≡ record { answer = answer; place = place; count = 0 } ⌝ }
-{
-    BackwardAnswer {
-        answer: answer,
-        place: place,
-        count: 0,
-    }
-}
-
 // Backward of rectangles that are accepted. The points are counted first and written only where all have room, but where there is room
 // for every corner.
-fn outlined(rects: &[i32], points: &mut [i32]) -> BackwardAnswer
-    requires { ⌜ BackwardAccepted (now rects) (2 * length (backList (rectsOf (now rects)))) ⌝ }
+fn outlined(rects: &[i32], points: &mut [i32]) -> Counted
+    requires { ⌜ BackwardAccepted (now rects) (2 * length (backwardPoints (now rects))) ⌝ }
     ensures { λ r. ⌜ BackwardDone (now (rects .entry)) (now (points .entry)) r (now (points .exit)) ⌝ }
 {
     let mut keys: [u64; MOST_KEYS] = [0; MOST_KEYS];
     if points.len() / 8 < rects.len() / RECT_SIZE {
         let needed = list_points(rects, &mut keys, points, false);
         if points.len() / 2 < needed {
-            return no_points(ROOM, needed as u64);
+            return refusal(ROOM, needed as u64);
         }
     }
-    BackwardAnswer {
-        answer: DONE,
-        place: 0,
-        count: list_points(rects, &mut keys, points, true),
-    }
+    done(list_points(rects, &mut keys, points, true))
 }
 
 // ---- The public function
 
 // The points that are a corner of an odd number of the rectangles, in order, written to `points`, with their count; or a refusal, which
 // leaves `points` as it was. `rects` is only read.
-pub fn backward(rects: &[i32], points: &mut [i32]) -> BackwardAnswer
+pub fn backward(rects: &[i32], points: &mut [i32]) -> Counted
     ensures { λ r. ⌜ BackwardDone (now (rects .entry)) (now (points .entry)) r (now (points .exit)) ⌝ }
 {
     let n = rects.len() / RECT_SIZE;
     if rects.len() % RECT_SIZE != 0 {
-        return no_points(LENGTH, 0);
+        return refusal(LENGTH, 0);
     }
     if MOST_RECTS < n {
-        return no_points(MANY, 0);
+        return refusal(MANY, 0);
     }
     let flat = first_bad(rects, FLAT);
     if flat < n {
-        return no_points(FLAT, flat as u64);
+        return refusal(FLAT, flat as u64);
     }
     let far = first_bad(rects, RANGE);
     if far < n {
-        return no_points(RANGE, far as u64);
+        return refusal(RANGE, far as u64);
     }
     outlined(rects, points)
 }

@@ -10,11 +10,12 @@ use lib.IntN.{ℤ}
 use Rattle.plane.specs.Lists.{odd}
 use Rattle.plane.specs.Words.{holds, pointsOf, flatPoints, rectsOf, inOrder, rectSize, mostRects}
 use Rattle.plane.proofs.Arrays.{points-flat}
+use Rattle.entry.specs.declared.Counted.{Counted}
 use Rattle.rule.specs.declared.ForwardAnswer.{ForwardAnswer}
-use Rattle.rule.specs.declared.BackwardAnswer.{BackwardAnswer}
 use Rattle.rule.specs.Rule.{ruleList}
 use Rattle.rule.specs.Back.{backList}
-use Rattle.rule.specs.Answers.{BackwardDone, ForwardDone, forwardList}
+use Rattle.rule.specs.BackwardCall.{BackwardDone}
+use Rattle.rule.specs.ForwardCall.{ForwardDone, forwardList}
 use Rattle.rule.proofs.Demands.{forward-then-backward, backward-then-forward, two-lists}
 use Rattle.outline.proofs.Kept as back
 use Rattle.panbuckle.specs.Calls.{BackThenForward, listAfter}
@@ -23,7 +24,7 @@ use Rattle.panbuckle.proofs.Kept.{done-list, done-numbers, done-sums, a
 -- ---- Forward and then backward
 
 module _ {a work out : List ℤ} {r : ForwardAnswer} {work-after out-after : List ℤ} (d : ForwardDone a work out r work-after out-after) (done : r .answer ≡ 0)
-    {points : List ℤ} {s : BackwardAnswer} {points-after : List ℤ} (b : BackwardDone (take (rectSize * r .count) out-after) points s points-after) where
+    {points : List ℤ} {s : Counted} {points-after : List ℤ} (b : BackwardDone (take (rectSize * r .count) out-after) points s points-after) where
   -- backward of the list that forward wrote gives the input's points in order, where the list has at most 16,384 rectangles and there is room
   pub done-then-back : r .count ≤ mostRects → length a ≤ length points → (s ≡ record { answer = 0; place = 0; count = length a / 2 }) × (points-after ≡ flatPoints (inOrder (pointsOf a)) ++ drop (length a) points)
   done-then-back few room =
@@ -35,17 +36,17 @@ module _ {a work out : List ℤ} {r : ForwardAnswer} {work-after out-after : Lis
 module _ {a : List ℤ} (t : BackThenForward a) where
   -- the points given to forward are those of the rectangles
   given : take (2 * t .said .count) (t .points-after) ≡ flatPoints (backList (rectsOf a))
-  given = back.done-numbers (t .back) (t .done)
+  given = back.done-numbers a (t .back) (t .done)
 
   -- forward accepts them
   pub back-then-done : t .answer .answer ≡ 0
   back-then-done =
-      let counted : t .said .count ≡ length (backList (rectsOf a)) = rw (back.done-points (t .back) (t .done)) at (back.done-rising (t .back) (t .done) .0) in
+      let counted : t .said .count ≡ length (backList (rectsOf a)) = rw (back.done-points a (t .back) (t .done)) at (back.done-rising a (t .back) (t .done) .0) in
       let fits : length (ruleList (backList (rectsOf a))) ≤ length (t .out) / rectSize = rw (given, points-flat (backList (rectsOf a))) at (t .room) in
       rw (t .forth .answer, given)
-      (backward-then-forward a (length (t .points)) (length (t .work)) (length (t .out)) (back.answers-0 (t .back) (t .done)) (omega (arith, t .few)) (omega (arith, t .working)) fits)
+      (backward-then-forward a (length (t .points)) (length (t .work)) (length (t .out)) (back.answers-0 a (t .back) (t .done)) (omega (arith, t .few)) (omega (arith, t .working)) fits)
 
 -- the two forward lists are equal exactly when the same cells lie in an odd number of rectangles of each
 pub two-lists-done : {a b : List ℤ} (t : BackThenForward a) (u : BackThenForward b) → (listAfter t ≡ listAfter u) ↔ ((x y : ℤ) → odd (holds x y) (rectsOf a) ≡ odd (holds x y) (rectsOf b))
 two-lists-done {a} {b} t u =
-    rw (done-list (t .forth) (back-then-done t), done-list (u .forth) (back-then-done u), given t, given u) (two-lists a b (length (t .points)) (length (u .points)) (back.answers-0 (t .back) (t .done)) (back.answers-0 (u .back) (u .done)))
+    rw (done-list (t .forth) (back-then-done t), done-list (u .forth) (back-then-done u), given t, given u) (two-lists a b (length (t .points)) (length (u .points)) (back.answers-0 a (t .back) (t .done)) (back.answers-0 b (u .back) (u .done)))

@@ -1,15 +1,15 @@
 -- A working array into whose start the points of an array have been copied.
 use Prim.Native.Nat.{ℕ, _/_}
 use native.Mathlib.Omega.{arith}
-use native.Mathlib.Nat.{sub-self}
 use mathlib.Core.Path.{_≡_}
 use mathlib.Core.List.{List, []}
 use lib.ListN.{length}
 use lib.IntN.{ℤ}
 use Rattle.plane.specs.Words.{pointsOf}
 use Rattle.plane.proofs.Arrays.{length-points, points-start}
-use Rattle.rule.specs.Answers.{workOf, ForwardAccepted}
-use Rattle.rule.proofs.Memory.{work-length, work-points, work-again}
+use Rattle.rule.specs.Working.{workOf}
+use Rattle.rule.specs.ForwardCall.{ForwardAccepted}
+use Rattle.rule.proofs.Working.{work-length, work-points, work-again, padded-full}
 use Rattle.panbuckle.specs.Inner.{held}
 use Rattle.panbuckle.specs.Calls.{copied}
 use Rattle.panbuckle.proofs.Taking.{Holds}
@@ -18,11 +18,11 @@ module _ (a work : List ℤ) where
   -- it is the working array with the array's points
   copied-is : copied a work ≡ workOf (length a / 2) (pointsOf a) work
   unfolding workOf
-  copied-is = rw (points-start a, length-points a, sub-self (length a / 2))
+  copied-is = rw (points-start a, padded-full (length a / 2) (pointsOf a) (length-points a))
 
   -- it holds the array's points
   pub copied-points : held (length a / 2) (copied a work) ≡ pointsOf a
-  copied-points = rw (copied-is, ← length-points a) (work-points (length (pointsOf a)) (pointsOf a) work (omega arith))
+  copied-points = rw (copied-is, ← length-points a) (work-points (length (pointsOf a)) (pointsOf a) work)
 
   -- drained, it is the working array drained
   pub copied-drained : workOf (length a / 2) [] (copied a work) ≡ workOf (length a / 2) [] work

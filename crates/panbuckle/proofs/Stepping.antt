@@ -9,18 +9,20 @@ use lib.IntN.{ℤ}
 use Rattle.plane.specs.declared.Point.{Point}
 use Rattle.plane.specs.declared.Rect.{Rect}
 use Rattle.plane.specs.Lists.{sum}
-use Rattle.plane.specs.Words.{pointsOf, flatPoints, areaOf, edgeOf, flatRects}
+use Rattle.plane.specs.Words.{pointsOf, areaOf, edgeOf, flatRects}
 use Rattle.rule.specs.declared.ForwardAnswer.{ForwardAnswer}
 use Rattle.rule.specs.declared.StepAnswer.{StepAnswer}
 use Rattle.rule.specs.declared.StepAnswer.the-variants.{Rectangle, Refused}
 use Rattle.rule.specs.Rule.{Taken, step, run, leftAfter, enough, ruleList}
-use Rattle.rule.specs.Answers.{workOf, forwardAnswer, forwardOut, forwardWork, ForwardDone, StepDone, forwardList}
+use Rattle.rule.specs.Working.{workOf}
+use Rattle.rule.specs.ForwardCall.{forwardAnswer, forwardOut, forwardWork, ForwardDone, forwardList}
+use Rattle.rule.specs.StepCall.{StepDone}
 use Rattle.rule.specs.Rows.{Accepted}
-use Rattle.rule.proofs.Refusals.{forward-accepts-exactly, forward-needs, forward-fits}
+use Rattle.rule.proofs.ForwardCall.{forward-accepts, forward-needs, forward-fits, forward-drained-work}
 use Rattle.rule.proofs.Steps.{accepted-step}
 use Rattle.rule.proofs.Bound.{rule-ends}
-use Rattle.rule.proofs.Memory.{work-length, work-points, work-again, drained-step, taken-step, forward-drained-work}
-use Rattle.rule.proofs.Outcomes.{step-one-outcome}
+use Rattle.rule.proofs.Working.{work-length, work-points, work-again, work-none}
+use Rattle.rule.proofs.StepCall.{drained-step, taken-step, step-one-outcome}
 use Rattle.panbuckle.specs.Inner.{held}
 use Rattle.panbuckle.specs.Calls.{copied, Stepped, emptied, another, Reached, at-start, onward}
 use Rattle.panbuckle.proofs.Scan.{held-length}
@@ -50,7 +52,7 @@ module _ {work : List ℤ} {n : ℕ} (h : Holds work n) (more : 0 < n) where
 
   -- the array then holds the points left
   left-points : held (length (taken work n .left)) (workOf n (taken work n .left) work) ≡ taken work n .left
-  left-points = work-points n (taken work n .left) work (left-accepted .1)
+  left-points = work-points n (taken work n .left) work
 
   -- so it holds accepted points
   left-held : Holds (workOf n (taken work n .left) work) (length (taken work n .left))
@@ -85,10 +87,9 @@ call-answers {n = suc n} h d =
 
 -- where no points are held, the first call answers DRAINED
 stepped-none : (work : List ℤ) (n : ℕ) → Holds work n → held n work ≡ [] → Stepped work n [] (workOf n [] work)
-unfolding workOf flatPoints
 stepped-none work n h e =
     let z : n ≡ 0 = sym (held-length n work (h .working)) ∙ ap length e in
-    rw z (emptied (none-left work))
+    rw (z, work-none work) (emptied (none-left work))
 
 -- from accepted points the calls give the rule's run, and drain the array
 stepped-run : (f : ℕ) (work : List ℤ) (n : ℕ) (ps : List Point) → held n work ≡ ps → Holds work n → leftAfter step f ps ≡ [] → Stepped work n (run step f ps) (workOf n [] work)
@@ -147,7 +148,7 @@ module _ {a work out : List ℤ} {r : ForwardAnswer} {w o : List ℤ} (d : Forwa
   forward-done-stepped z =
       let e = answers 0 z in
       let i = stepped-one-outcome s (forward-stepped a work (length out) (inl e)) in
-      rw (d .answer, d .working, d .output, i .0, i .1, forward-accepts-exactly a (length work) (length out) .0 e) (refl, refl, refl, refl, refl)
+      rw (d .answer, d .working, d .output, i .0, i .1, forward-accepts a (length work) (length out) .0 e) (refl, refl, refl, refl, refl)
 
   -- on 8 it gives the number of them as its place, the output unchanged, and the working array as they leave it
   pub forward-short-stepped : r .answer ≡ 8 → (r .place ≡ length rs) × (o ≡ out) × (w ≡ v)

@@ -12,11 +12,12 @@ use Rattle.plane.specs.declared.Point.{Point}
 use Rattle.plane.specs.Words.{mostPoints}
 use Rattle.rule.specs.declared.StepAnswer.the-variants.{Rectangle}
 use Rattle.rule.specs.Rule.{pickM, rectOf, toggle, toggleFour, takeRect, step, Picked}
-use Rattle.rule.specs.Answers.{workOf, StepAccepted, StepDone}
+use Rattle.rule.specs.Working.{workOf}
+use Rattle.rule.specs.StepCall.{StepAccepted, StepDone}
 use Rattle.rule.specs.Rows.{Accepted}
 use Rattle.rule.proofs.Picks.{picks-some}
 use Rattle.rule.proofs.Steps.{step-lengths, step-sides}
-use Rattle.rule.proofs.Memory.{taken-step}
+use Rattle.rule.proofs.StepCall.{taken-step}
 use Rattle.panbuckle.specs.Inner.{held, Begun}
 use Rattle.panbuckle.proofs.Scan.{held-length}
 

@@ -3,21 +3,21 @@ use Prim.Native.Nat.{ℕ, zero, suc, _<_, _≤_, _+_, _*_, _-_}
 use native.Mathlib.Numerals.{add-one}
 use native.Mathlib.Omega.{arith}
 use mathlib.Core.Path.{_≡_, refl, sym, ap, _∙_}
-use mathlib.Core.List.{List, [], _∷_, _++_}
+use mathlib.Core.List.{List, [], _∷_, _++_, append-assoc}
 use mathlib.Core.Option.{Option·getD}
-use lib.ListN.{length, take, set, length-set, length-append, length-take}
-use lib.IntN.{ℤ}
+use lib.ListN.{length, take, set, length-set, length-append, length-take, replicate, drop}
+use lib.IntN.{ℤ, pos}
 use lib.Dec.{ltb}
 use borrow.Author.Tests.{lt-ltb, le-ltb, ltb-true, ltb-false}
 use Rattle.plane.specs.declared.Point.{Point}
 use Rattle.plane.specs.Words.{origin, pointsOf, flatPoints, pointAt}
 use Rattle.plane.proofs.Bools.{cond-case}
-use Rattle.plane.proofs.Arrays.{twice-suc}
+use Rattle.plane.proofs.Arrays.{twice-suc, length-flat-points}
 use Rattle.plane.proofs.Places.{set-last}
 use Rattle.rule.specs.Rule.{placeOf, remove, add, toggle}
-use Rattle.rule.specs.Answers.{workOf}
+use Rattle.rule.specs.Working.{workOf, padded}
 use Rattle.rule.proofs.Toggle.{toggle-at, toggle-length}
-use Rattle.rule.proofs.Memory.{work-length, work-points, work-held, work-origin, work-again}
+use Rattle.rule.proofs.Working.{work-length, work-points, work-held, work-origin, work-again}
 use Rattle.panbuckle.specs.Inner.{held, put, most}
 use Rattle.panbuckle.proofs.Scan.{held-length, held-at, fewer}
 
@@ -32,17 +32,17 @@ put-flat (q ∷ ps) rest (suc i) p h = rw (add-one, twice-suc i) (ap (λ (l : Li
 
 -- the same in a working array
 put-work : (n : ℕ) (ps : List Point) (work : List ℤ) (i : ℕ) (p : Point) → i < length ps → put (workOf n ps work) i p ≡ workOf n (set ps i p) work
-unfolding workOf
-put-work n ps work i p h = rw (length-set ps i p) (put-flat ps _ i p h)
+unfolding workOf padded
+put-work n ps work i p h =
+    let zeros : List ℤ = replicate (2 * (n - length ps)) (pos 0) in
+    let rest : List ℤ = drop (length (flatPoints ps ++ zeros)) work in
+    let same-length : length (flatPoints (set ps i p) ++ zeros) ≡ length (flatPoints ps ++ zeros) = omega (arith, length-append (flatPoints ps) zeros, length-append (flatPoints (set ps i p)) zeros, length-flat-points ps, length-flat-points (set ps i p), length-set ps i p) in
+    rw (length-set ps i p, same-length, append-assoc (flatPoints ps) zeros rest, append-assoc (flatPoints (set ps i p)) zeros rest) (put-flat ps (zeros ++ rest) i p h)
 
 -- ---- A point toggled
 
 -- of n points in a working array, p has place i, or place n where it is absent
-module _ (n : ℕ) (work : List ℤ) (p : Point) (fits : 2 * n ≤ length work) (i : ℕ) (at : i ≡ Option·getD (placeOf p (held n work)) n) where
-  -- the same where it is absent from a list of that length
-  place : i ≡ Option·getD (placeOf p (held n work)) (length (held n work))
-  place = at ∙ ap (Option·getD (placeOf p (held n work))) (sym (held-length n work fits))
-
+module _ (n : ℕ) (work : List ℤ) (p : Point) (fits : 2 * n ≤ length work) (i : ℕ) (place : i ≡ Option·getD (placeOf p (held n work)) (length (held n work))) where
   -- a present point is removed: the last one is put in its place, and zeros in the last place
   pub toggle-present : i < n → {q z : Point} → q ≡ pointAt (pointsOf work) (n - 1) → z ≡ origin → (n - 1 ≡ length (toggle (held n work) p)) × (put (put work i q) (n - 1) z ≡ workOf (most n (n - 1)) (toggle (held n work) p) work)
   unfolding remove
@@ -94,7 +94,7 @@ module _ (n : ℕ) (a : List ℤ) (p : Point) where
   toggled-held {b} {r} e =
       let qs : List Point = toggle (held n a) p in
       let few : length qs ≤ most n r = cond-case (λ j. length qs ≤ j) (ltb n r) (λ t. omega (arith, e .0)) (λ t. omega (arith, e .0, ltb-false n r t)) in
-      rw (e .1) (ap (λ j. held j (workOf (most n r) qs a)) (e .0) ∙ work-points (most n r) qs a few)
+      rw (e .1) (ap (λ j. held j (workOf (most n r) qs a)) (e .0) ∙ work-points (most n r) qs a)
 
 -- ---- From toggle to toggle
 
@@ -112,7 +112,7 @@ keeps-first {N} {a} h = let c = held-length N a h in record { all = work-held N 
 module _ {N : ℕ} {a b : List ℤ} {n : ℕ} {ps : List Point} (k : Keeps N a b n ps) where
   -- the points that it holds are those
   kept : held n b ≡ ps
-  kept = rw (k .many, k .all) (work-points N ps a (k .within))
+  kept = rw (k .many, k .all) (work-points N ps a)
 
   -- what toggling a point asks
   pub keeps-room : (p : Point) → length (toggle ps p) ≤ N → (2 * n ≤ length b) × (2 * length (toggle (held n b) p) ≤ length b)

@@ -1,21 +1,24 @@
 -- Calls of the library one after another: steps until none is left, and backward and then forward.
 use Prim.Native.Nat.{ℕ, _*_, _/_, _≤_}
 use mathlib.Core.Path.{_≡_}
-use mathlib.Core.List.{List, [], _∷_, _++_}
-use lib.ListN.{length, take, drop}
+use mathlib.Core.List.{List, [], _∷_}
+use lib.ListN.{length, take}
 use lib.IntN.{ℤ}
 use Rattle.plane.specs.declared.Rect.{Rect}
+use Rattle.plane.specs.Lists.{atStart}
 use Rattle.plane.specs.Words.{mostPoints, rectSize}
+use Rattle.entry.specs.declared.Counted.{Counted}
 use Rattle.rule.specs.declared.ForwardAnswer.{ForwardAnswer}
-use Rattle.rule.specs.declared.BackwardAnswer.{BackwardAnswer}
 use Rattle.rule.specs.declared.StepAnswer.the-variants.{Rectangle, Refused}
-use Rattle.rule.specs.Answers.{forwardList, ForwardDone, listOf, BackwardDone, StepDone}
+use Rattle.rule.specs.ForwardCall.{forwardList, ForwardDone, listOf}
+use Rattle.rule.specs.BackwardCall.{BackwardDone}
+use Rattle.rule.specs.StepCall.{StepDone}
 
 -- ---- Calls of step, one after another
 
 -- a working array with an array's points copied in order into its start
 abbrev pub copied : (a work : List ℤ) → List ℤ
-copied a work = take (2 * (length a / 2)) a ++ drop (2 * (length a / 2)) work
+copied a work = atStart (take (2 * (length a / 2)) a) work
 
 -- calls of step on a working array with n points, until one answers DRAINED: their rectangles, and the array after the last
 pub data Stepped : (work : List ℤ) (n : ℕ) → List Rect → (work-after : List ℤ) → Type 0 where
@@ -32,7 +35,7 @@ pub data Reached (work : List ℤ) (n : ℕ) : (work-now : List ℤ) (m : ℕ) �
 -- backward of a rectangle list, accepted with at most 4,096 points, and forward of the numbers that it wrote, with work and room for them
 pub record BackThenForward (a : List ℤ) : Type 0 where
   pub points : List ℤ
-  pub said : BackwardAnswer
+  pub said : Counted
   pub points-after : List ℤ
   pub back : BackwardDone a points said points-after
   pub done : said .answer ≡ 0

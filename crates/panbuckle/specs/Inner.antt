@@ -11,7 +11,7 @@ use Rattle.plane.specs.declared.Point.{Point}
 use Rattle.plane.specs.Lists.{count, odd}
 use Rattle.plane.specs.Words.{same, pointsOf}
 use Rattle.rule.specs.Rule.{pickK, pickL, rightOf, toggle}
-use Rattle.rule.specs.Answers.{StepAccepted}
+use Rattle.rule.specs.StepCall.{StepAccepted}
 use Rattle.panbuckle.specs.declared.Seek.{Seek}
 use Rattle.panbuckle.specs.declared.Seek.the-variants.{Any, RightOf, Over}
 

@@ -11,14 +11,20 @@ ghost use lib.Signed.{ltZ};
 ghost use lib.ListN.{length};
 ghost use Prim.Native.Nat.{_+_, _*_, _<_, _≤_};
 ghost use Rattle.plane.specs.Words.{origin, same, pointAt, pointsOf};
+ghost use Rattle.entry.specs.Checks.{verdict};
+ghost use Rattle.entry.specs.Entry.{counted};
 ghost use Rattle.rule.specs.Rule.{firstOf, rightOf, placeOf, pickM, rectOf, toggle, toggleFour};
-ghost use Rattle.rule.specs.Answers.{workOf, stepChecks, StepAccepted, ForwardDone, StepDone};
-ghost use Rattle.rule.specs.Checks.{verdict};
-ghost use Rattle.checks.specs.Screens.{screenOf};
+ghost use Rattle.rule.specs.Working.{workOf};
+ghost use Rattle.rule.specs.StepCall.{stepChecks, StepAccepted, StepDone};
+ghost use Rattle.rule.specs.ForwardCall.{ForwardDone};
 ghost use Rattle.panbuckle.specs.Inner.{held, put, cross, overWidth, sought, Begun, beside, IsHighest, Toggled, OddBeside, Between, most};
-use checks::Screen;
 use checks::check_points;
-use checks::refused;
+pub use entry::Counted;
+use entry::DONE;
+use entry::DRAINED;
+use entry::MANY;
+use entry::WORK;
+use entry::refusal;
 pub use outline::backward;
 pub use plane::MOST_POINTS;
 pub use plane::MOST_RECTS;
@@ -26,20 +32,8 @@ pub use plane::Point;
 pub use plane::Rect;
 use plane::comes_before;
 use plane::origin;
-pub use rule::BackwardAnswer;
-pub use rule::COLUMN;
-pub use rule::DONE;
-pub use rule::DRAINED;
-pub use rule::FLAT;
 pub use rule::ForwardAnswer;
-pub use rule::LENGTH;
-pub use rule::MANY;
-pub use rule::RANGE;
-pub use rule::REPEATED;
-pub use rule::ROOM;
-pub use rule::ROW;
 pub use rule::StepAnswer;
-pub use rule::WORK;
 use sweep::sweep_points;
 
 // ---- Points
@@ -90,7 +84,7 @@ fn put_point(a: &mut [i32], i: usize, p: Point)
 // The place of the first point equal to p among the first n, and n where there is none.
 fn place_of(a: &[i32], n: usize, p: Point) -> usize
     requires { ⌜ 2 * n ≤ length (now a) ⌝ }
-    ensures { λ r. ⌜ r ≡ Option·getD (placeOf p (held n (now (a .entry)))) n ⌝ }
+    ensures { λ r. ⌜ r ≡ Option·getD (placeOf p (held n (now (a .entry)))) (length (held n (now (a .entry)))) ⌝ }
 {
     let mut i = 0;
     while i < n {
@@ -331,17 +325,17 @@ fn take_rectangle(work: &mut [i32], n: usize) -> StepAnswer
 // ---- Checks
 
 // A step's checks.
-fn check_work(work: &[i32], n: usize) -> Screen
-    ensures { λ r. ⌜ r ≡ screenOf (verdict (stepChecks (now (work .entry)) n)) ⌝ }
+fn check_work(work: &[i32], n: usize) -> Counted
+    ensures { λ r. ⌜ r ≡ counted (verdict (stepChecks (now (work .entry)) n)) (length (held n (now (work .entry)))) ⌝ }
 {
     if MOST_POINTS < n {
-        return refused(MANY);
+        return refusal(MANY, 0);
     }
     if work.len() < 2 * n {
-        return refused(WORK);
+        return refusal(WORK, 0);
     }
     if n == 0 {
-        return refused(DRAINED);
+        return refusal(DRAINED, 0);
     }
     check_points(&work[..2 * n])
 }
@@ -361,11 +355,12 @@ pub fn forward(points: &[i32], work: &mut [i32], rects: &mut [i32]) -> ForwardAn
 pub fn step(work: &mut [i32], count: usize) -> StepAnswer
     ensures { λ r. ⌜ StepDone (now (work .entry)) count r (now (work .exit)) ⌝ }
 {
-    match check_work(work, count) {
-        Screen::Clear => take_rectangle(work, count),
-        Screen::Refused { answer, place } => StepAnswer::Refused {
-            answer: answer,
-            place: place,
-        },
+    let checked = check_work(work, count);
+    if checked.answer != DONE {
+        return StepAnswer::Refused {
+            answer: checked.answer,
+            place: checked.place,
+        };
     }
+    take_rectangle(work, count)
 }

@@ -1,20 +1,32 @@
--- What the library promises of a call, said of the numbers of its answer.
+-- A call has no second outcome.
 use Prim.Native.Nat.{ℕ}
-use mathlib.Core.Path.{_≡_, ap, _∙_}
+use mathlib.Core.Path.{_≡_}
 use mathlib.Core.List.{List}
 use lib.IntN.{ℤ}
-use Rattle.rule.specs.declared.ForwardAnswer.{ForwardAnswer}
-use Rattle.rule.specs.declared.BackwardAnswer.{BackwardAnswer}
-use Rattle.rule.specs.declared.StepAnswer.{StepAnswer}
-use Rattle.rule.specs.Answers.{stepNumber, BackwardDone, ForwardDone, StepDone}
-use Rattle.panbuckle_c.specs.Face.{forwardNumbers, backwardNumbers, stepNumbers, rectNumbers, ForwardCalled, BackwardCalled, StepCalled}
+use Rattle.plane.proofs.Outcomes.{one-outcome}
+use Rattle.entry.proofs.Entry.{done-one-outcome}
+use Rattle.rule.proofs.ForwardCall.{forward-one-outcome}
+use Rattle.rule.proofs.StepCall.{step-one-outcome}
+use Rattle.panbuckle_c.specs.Face.{Told, ForwardCalled, BackwardCalled, StepCalled}
 
-pub forward-called : {a work out : List ℤ} {s : ForwardAnswer} {work-after out-after : List ℤ} {numbers : List ℕ} → ForwardDone a work out s work-after out-after → numbers ≡ forwardNumbers s → ForwardCalled a work out (s .answer) work-after out-after numbers
-forward-called d e = record { answer = ap (λ (t : ForwardAnswer). t .answer) (d .answer); working = d .working; output = d .output; result = e ∙ ap forwardNumbers (d .answer) }
+-- of numbers that are told
+told-one-outcome : {numbers : List ℕ} {r s : ℕ} {m n : List ℕ} → Told numbers r m → Told numbers s n → (r ≡ s) × (m ≡ n)
+told-one-outcome d e = (one-outcome (d .returned) (e .returned), one-outcome (d .result) (e .result))
 
-pub backward-called : {a out : List ℤ} {s : BackwardAnswer} {out-after : List ℤ} {numbers : List ℕ} → BackwardDone a out s out-after → numbers ≡ backwardNumbers s → BackwardCalled a out (s .answer) out-after numbers
-backward-called d e = record { answer = ap (λ (t : BackwardAnswer). t .answer) (d .answer); output = d .output; result = e ∙ ap backwardNumbers (d .answer) }
+pub forward-call-one-outcome : {a work out : List ℤ} {r s : ℕ} {v w o p : List ℤ} {m n : List ℕ} → ForwardCalled a work out r v o m → ForwardCalled a work out s w p n → (r ≡ s) × (v ≡ w) × (o ≡ p) × (m ≡ n)
+forward-call-one-outcome d e =
+    let l = forward-one-outcome (d .done) (e .done) in
+    let t = told-one-outcome (rw (l .0) at (d .told)) (e .told) in
+    (t .0, l .1, l .2, t .1)
 
-pub step-called : {work : List ℤ} {n : ℕ} {s : StepAnswer} {rect work-after rect-after : List ℤ} {numbers : List ℕ} → StepDone work n s work-after → rect-after ≡ rectNumbers s rect → numbers ≡ stepNumbers s → StepCalled work n rect (stepNumber s) work-after rect-after numbers
-step-called {rect = rect} d e f =
-    record { answer = ap stepNumber (d .answer); working = d .working; rectangle = e ∙ ap (λ (t : StepAnswer). rectNumbers t rect) (d .answer); result = f ∙ ap stepNumbers (d .answer) }
+pub backward-call-one-outcome : {a out : List ℤ} {r s : ℕ} {o p : List ℤ} {m n : List ℕ} → BackwardCalled a out r o m → BackwardCalled a out s p n → (r ≡ s) × (o ≡ p) × (m ≡ n)
+backward-call-one-outcome d e =
+    let l = done-one-outcome (d .done) (e .done) in
+    let t = told-one-outcome (rw (l .0) at (d .told)) (e .told) in
+    (t .0, l .1, t .1)
+
+pub step-call-one-outcome : {work : List ℤ} {count : ℕ} {rect : List ℤ} {r s : ℕ} {v w o p : List ℤ} {m n : List ℕ} → StepCalled work count rect r v o m → StepCalled work count rect s w p n → (r ≡ s) × (v ≡ w) × (o ≡ p) × (m ≡ n)
+step-call-one-outcome d e =
+    let l = step-one-outcome (d .done) (e .done) in
+    let t = told-one-outcome (rw (l .0) at (d .told)) (e .told) in
+    (t .0, l .1, one-outcome (rw (l .0) at (d .rectangle)) (e .rectangle), t .1)

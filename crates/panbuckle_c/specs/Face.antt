@@ -2,13 +2,17 @@
 use Prim.Native.Nat.{ℕ}
 use mathlib.Core.Path.{_≡_}
 use mathlib.Core.List.{List, [], _∷_}
-use lib.ListN.{length}
+use lib.ListN.{getD}
 use lib.IntN.{ℤ}
+use Rattle.entry.specs.declared.Counted.{Counted}
+use Rattle.entry.specs.Checks.{accepted, refused}
+use Rattle.entry.specs.Entry.{counted}
 use Rattle.rule.specs.declared.ForwardAnswer.{ForwardAnswer}
-use Rattle.rule.specs.declared.BackwardAnswer.{BackwardAnswer}
 use Rattle.rule.specs.declared.StepAnswer.{StepAnswer}
 use Rattle.rule.specs.declared.StepAnswer.the-variants.{Rectangle, Refused}
-use Rattle.rule.specs.Answers.{forwardAnswer, forwardWork, forwardOut, backwardAnswer, backwardOut, stepAnswer, stepWork, stepNumber, stepPlace}
+use Rattle.rule.specs.ForwardCall.{ForwardDone}
+use Rattle.rule.specs.BackwardCall.{BackwardDone}
+use Rattle.rule.specs.StepCall.{StepDone}
 
 -- ---- The numbers of a result
 
@@ -16,18 +20,14 @@ use Rattle.rule.specs.Answers.{forwardAnswer, forwardWork, forwardOut, backward
 abbrev pub forwardNumbers : ForwardAnswer → List ℕ
 forwardNumbers r = r .answer ∷ r .place ∷ r .count ∷ r .area ∷ r .edge ∷ []
 
--- backward's: answer, place, count
-abbrev pub backwardNumbers : BackwardAnswer → List ℕ
-backwardNumbers r = r .answer ∷ r .place ∷ r .count ∷ []
+-- those of an answer that counts: answer, place, count
+abbrev pub countedNumbers : Counted → List ℕ
+countedNumbers r = r .answer ∷ r .place ∷ r .count ∷ []
 
--- the count of points that are left after a step; 0 with a refusal
-abbrev pub stepCount : StepAnswer → ℕ
-stepCount (Rectangle r n) = n
-stepCount (Refused k p) = 0
-
--- a step's: answer, place, count
-abbrev pub stepNumbers : StepAnswer → List ℕ
-stepNumbers s = stepNumber s ∷ stepPlace s ∷ stepCount s ∷ []
+-- a step's answer as one that counts the points that are left
+abbrev pub stepCounted : StepAnswer → Counted
+stepCounted (Rectangle r n) = counted accepted n
+stepCounted (Refused k p) = counted (refused k p) 0
 
 -- the array for a step's rectangle afterwards: X, Y, W, H; with a refusal it is as before
 abbrev pub rectNumbers : StepAnswer → (before : List ℤ) → List ℤ
@@ -36,25 +36,29 @@ rectNumbers (Refused k p) before = before
 
 -- ---- The calls
 
--- panbuckle_forward
+-- an answer's numbers are told: the first is returned, and the result holds all
+pub record Told (numbers : List ℕ) (r : ℕ) (result-after : List ℕ) : Type 0 where
+  pub returned : r ≡ getD numbers 0 0
+  pub result : result-after ≡ numbers
+
+-- panbuckle_forward does what the library's forward does, and tells what it said
 pub record ForwardCalled (a work out : List ℤ) (r : ℕ) (work-after out-after : List ℤ) (result-after : List ℕ) : Type 0 where
-  pub answer : r ≡ forwardAnswer a (length work) (length out) .answer
-  pub working : work-after ≡ forwardWork a work (length out)
-  pub output : out-after ≡ forwardOut a (length work) out
-  pub result : result-after ≡ forwardNumbers (forwardAnswer a (length work) (length out))
+  pub said : ForwardAnswer
+  pub done : ForwardDone a work out said work-after out-after
+  pub told : Told (forwardNumbers said) r result-after
 
--- panbuckle_backward
+-- panbuckle_backward, the library's backward
 pub record BackwardCalled (a out : List ℤ) (r : ℕ) (out-after : List ℤ) (result-after : List ℕ) : Type 0 where
-  pub answer : r ≡ backwardAnswer a (length out) .answer
-  pub output : out-after ≡ backwardOut a out
-  pub result : result-after ≡ backwardNumbers (backwardAnswer a (length out))
+  pub said : Counted
+  pub done : BackwardDone a out said out-after
+  pub told : Told (countedNumbers said) r result-after
 
--- panbuckle_step
+-- panbuckle_step, the library's step, with its rectangle
 pub record StepCalled (work : List ℤ) (n : ℕ) (rect : List ℤ) (r : ℕ) (work-after rect-after : List ℤ) (result-after : List ℕ) : Type 0 where
-  pub answer : r ≡ stepNumber (stepAnswer work n)
-  pub working : work-after ≡ stepWork work n
-  pub rectangle : rect-after ≡ rectNumbers (stepAnswer work n) rect
-  pub result : result-after ≡ stepNumbers (stepAnswer work n)
+  pub said : StepAnswer
+  pub done : StepDone work n said work-after
+  pub rectangle : rect-after ≡ rectNumbers said rect
+  pub told : Told (countedNumbers (stepCounted said)) r result-after
 
 -- ---- The version
 

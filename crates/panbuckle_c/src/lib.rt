@@ -2,9 +2,11 @@
 // An array that is lent passes as a pointer and a length; one of a fixed size passes as a pointer.
 ghost use mathlib.Core.Path.{_≡_};
 ghost use mathlib.Core.List.{[], _∷_};
-ghost use Rattle.panbuckle_c.specs.Face.{forwardNumbers, backwardNumbers, ForwardCalled, BackwardCalled, StepCalled, version};
-use panbuckle::BackwardAnswer;
-use panbuckle::DONE;
+ghost use Rattle.panbuckle_c.specs.Face.{forwardNumbers, countedNumbers, ForwardCalled, BackwardCalled, StepCalled, version};
+use entry::Counted;
+use entry::DONE;
+use entry::done;
+use entry::refusal;
 use panbuckle::ForwardAnswer;
 use panbuckle::Rect;
 use panbuckle::StepAnswer;
@@ -20,8 +22,8 @@ fn put_forward(result: &mut [u64; 5], r: ForwardAnswer)
     *result = [r.answer as u64, r.place, r.count as u64, r.area, r.edge];
 }
 
-fn put_backward(result: &mut [u64; 3], r: BackwardAnswer)
-    ensures { λ _. ⌜ now (result .exit) ≡ backwardNumbers r ⌝ }
+fn put_counted(result: &mut [u64; 3], r: Counted)
+    ensures { λ _. ⌜ now (result .exit) ≡ countedNumbers r ⌝ }
 {
     *result = [r.answer as u64, r.place, r.count as u64];
 }
@@ -34,12 +36,6 @@ fn put_rect(rect: &mut [i32; 4], r: Rect)
     let w = r.w;
     let h = r.h;
     *rect = [x, y, w, h];
-}
-
-fn put_step(result: &mut [u64; 3], answer: u32, place: u64, count: usize)
-    ensures { λ _. ⌜ now (result .exit) ≡ answer ∷ place ∷ count ∷ [] ⌝ }
-{
-    *result = [answer as u64, place, count as u64];
 }
 
 // ---- The functions for C
@@ -76,11 +72,11 @@ pub extern "C" fn panbuckle_step(
             count: left,
         } => {
             put_rect(rect, made);
-            put_step(result, DONE, 0, left);
+            put_counted(result, done(left));
             DONE
         }
         StepAnswer::Refused { answer, place } => {
-            put_step(result, answer, place, 0);
+            put_counted(result, refusal(answer, place));
             answer
         }
     }
@@ -96,7 +92,7 @@ pub extern "C" fn panbuckle_backward(
     ensures { λ r. ⌜ BackwardCalled (now (rects .entry)) (now (points .entry)) r (now (points .exit)) (now (result .exit)) ⌝ }
 {
     let r = panbuckle::backward(rects, points);
-    put_backward(result, r);
+    put_counted(result, r);
     r.answer
 }
 

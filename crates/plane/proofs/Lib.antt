@@ -10,6 +10,7 @@ pub mod Rising
 pub mod Cells
 pub mod Grid
 pub mod Arrays
+pub mod AtStart
 pub mod Places
 pub mod Keys
 pub mod Sorted

@@ -1,7 +1,9 @@
--- Words on lists and sums that document 01 uses without saying so: any, how many, an odd number, the sum.
+-- Words on lists and sums that document 01 uses without saying so: any, how many, an odd number, the sum; and on lent arrays: at the start.
 use Prim.Native.Nat.{ℕ, zero, suc, _+_}
+use mathlib.Core.Path.{_≡_}
 use mathlib.Core.Bool.{Bool, true, false, cond, _||_, xor}
-use mathlib.Core.List.{List, [], _∷_}
+use mathlib.Core.List.{List, [], _∷_, _++_}
+use lib.ListN.{length, take, drop}
 
 -- 1 for true, 0 for false
 abbrev pub bit : Bool → ℕ
@@ -38,6 +40,15 @@ module _ {A : Type 0} where
   unfoldable pub only : (A → Bool) → List A → List A
   only f [] = []
   only f (a ∷ l) = keep (f a) a (only f l)
+
+  -- an array afterwards: these at its start, and otherwise unchanged
+  abbrev pub atStart : (items before : List A) → List A
+  atStart items before = items ++ drop (length items) before
+
+  -- afterwards an array begins with these, and past them it is as it was
+  pub record Starts (items before after : List A) : Type 0 where
+    pub start : take (length items) after ≡ items
+    pub rest : drop (length items) after ≡ drop (length items) before
 
 -- the sum of a weight over the numbers below n
 unfoldable pub sumBelow : ℕ → (ℕ → ℕ) → ℕ

@@ -1,5 +1,3 @@
 pub mod Lines
 pub mod Grammar
-pub mod Checks
-pub mod Outcomes
 pub mod Kept

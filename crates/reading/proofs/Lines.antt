@@ -13,9 +13,9 @@ use lib.Dec.{eqb, ltb, leb·suc-suc}
 use borrow.Author.Tests.{lt-ltb, eq-eqb, ne-eqb, ltb-true}
 use Rattle.plane.specs.declared.Point.{Point}
 use Rattle.plane.proofs.Bools.{by, cond-case}
-use Rattle.rule.proofs.Verdicts.{NoneBelow}
-use Rattle.reading.specs.Lines.{newline, beforeFirst, afterFirst, Line, onto, linesOf, lineAt, linePoint, isBad, withPoint, isNone, pointsIn}
+use Rattle.entry.proofs.Search.{NoneBelow}
 use Rattle.reading.specs.declared.LineRead.the-variants.{Read, Unread}
+use Rattle.reading.specs.Lines.{newline, beforeFirst, afterFirst, Line, onto, linesOf, lineAt, linePoint, isBad, withPoint, isNone, pointsIn}
 use Rattle.reading.specs.Inner.{lineSays, nextLine, lineFrom}
 
 -- ---- Bytes

@@ -1,11 +1,11 @@
 -- What the private functions speak of. No caller needs these definitions: the promise is in Reading.
 use Prim.Native.Nat.{ℕ, suc, _+_}
-use mathlib.Core.List.{List}
+use mathlib.Core.List.{List, [], _∷_}
 use mathlib.Core.Option.{Option, none, some}
 use lib.IntN.{ℤ}
 use lib.ListN.{length, drop}
 use Rattle.plane.specs.declared.Point.{Point}
-use Rattle.rule.specs.Checks.{Check}
+use Rattle.entry.specs.Checks.{Check}
 use Rattle.rule.specs.Rows.{TEXT}
 use Rattle.numerals.specs.declared.Numeral.{Numeral}
 use Rattle.numerals.specs.declared.Numeral.the-variants.{Number, Bad}
@@ -13,14 +13,12 @@ use Rattle.reading.specs.declared.Parsed.{Parsed}
 use Rattle.reading.specs.declared.Parsed.the-variants.{Good, None}
 use Rattle.reading.specs.declared.LineRead.{LineRead}
 use Rattle.reading.specs.declared.LineRead.the-variants.{Read, Unread}
-use Rattle.reading.specs.declared.LinesChecked.{LinesChecked}
-use Rattle.reading.specs.declared.LinesChecked.the-variants.{AllGood, BadAt}
 use Rattle.reading.specs.Lines.{newline, beforeFirst, linesOf, lineAt, linePoint, isBad}
 
 -- the number that bytes were read as
-abbrev pub numberIn : Numeral → Option ℤ
-numberIn Bad = none
-numberIn (Number z) = some z
+abbrev pub readAs : Numeral → Option ℤ
+readAs Bad = none
+readAs (Number z) = some z
 
 -- what the code says of a line's bytes
 abbrev pub parsed : Option Point → Parsed
@@ -40,11 +38,6 @@ nextLine t at = at + suc (length (beforeFirst newline (drop at t)))
 abbrev pub lineFrom : List ℕ → ℕ → LineRead
 lineFrom t at = lineSays (linePoint (lineAt (linesOf (drop at t)) 0)) (nextLine t at)
 
--- the check of a text's lines
-abbrev pub linesCheck : List ℕ → Check
-linesCheck t = TEXT (length (linesOf t)) (λ i. isBad (lineAt (linesOf t) i))
-
--- what the code says of n lines, by the first bad one
-abbrev pub linesSay : Option ℕ → ℕ → LinesChecked
-linesSay none n = AllGood n
-linesSay (some i) n = BadAt i
+-- the check of a text's lines alone
+abbrev pub linesChecks : List ℕ → List Check
+linesChecks t = TEXT (length (linesOf t)) (λ i. isBad (lineAt (linesOf t) i)) ∷ []

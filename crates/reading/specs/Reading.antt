@@ -1,15 +1,14 @@
 -- What is refused of a text, and what its reader answers and leaves.
 use Prim.Native.Nat.{ℕ, _/_}
-use mathlib.Core.Path.{_≡_}
 use mathlib.Core.List.{List, [], _∷_, _++_}
 use lib.ListN.{length}
 use lib.IntN.{ℤ}
 use Rattle.plane.specs.declared.Point.{Point}
 use Rattle.plane.specs.Words.{flatPoints, mostPoints}
-use Rattle.rule.specs.Answers.{written}
-use Rattle.rule.specs.Checks.{Check, Verdict, accepted, refused, verdict}
+use Rattle.entry.specs.declared.Counted.{Counted}
+use Rattle.entry.specs.Entry.{Done}
+use Rattle.entry.specs.Checks.{Check}
 use Rattle.rule.specs.Rows.{MANY, TEXT, ROOM}
-use Rattle.reading.specs.declared.ReadAnswer.{ReadAnswer}
 use Rattle.reading.specs.Lines.{linesOf, lineAt, isBad, pointsIn}
 
 -- the points of a text
@@ -24,20 +23,6 @@ textChecks t = MANY 65_536 (length t) ∷ TEXT (length (linesOf t)) (λ i. isBad
 unfoldable pub readChecks : (t : List ℕ) (out : ℕ) → List Check
 readChecks t out = textChecks t ++ (ROOM (length (linesOf t)) (out / 2) ∷ [])
 
--- on 0 the count of points; on a refusal all but answer and place are 0
-abbrev pub readSays : Verdict → List Point → ReadAnswer
-readSays accepted ps = record { answer = 0; place = 0; count = length ps }
-readSays (refused k p) ps = record { answer = k; place = p; count = 0 }
-
--- what the reader returns, of a text and the output's length
-unfoldable pub readAnswer : (t : List ℕ) (out : ℕ) → ReadAnswer
-readAnswer t out = readSays (verdict (readChecks t out)) (pointsRead t)
-
--- what the output holds afterwards
-unfoldable pub readOut : (t : List ℕ) (out : List ℤ) → List ℤ
-readOut t out = written (verdict (readChecks t (length out))) (flatPoints (pointsRead t)) out
-
--- the reader, of a text and an output: its answer, and the output afterwards
-pub record ReadDone (t : List ℕ) (out : List ℤ) (r : ReadAnswer) (out-after : List ℤ) : Type 0 where
-  pub answer : r ≡ readAnswer t (length out)
-  pub output : out-after ≡ readOut t out
+-- the reader promises, of a text and an output: its answer, which counts the points, and the output afterwards, which begins with them
+abbrev pub ReadDone : (t : List ℕ) (out : List ℤ) (r : Counted) (out-after : List ℤ) → Type 0
+ReadDone t out r out-after = Done (readChecks t (length out)) (length (pointsRead t)) (flatPoints (pointsRead t)) out r out-after

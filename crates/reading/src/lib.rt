@@ -1,23 +1,26 @@
 // Reads lines of points. What a good line is, what is refused and what the reader leaves is in specs/.
 ghost use Prim.Native.Nat.{_*_, _<_, _≤_};
 ghost use mathlib.Core.Path.{_≡_};
-ghost use mathlib.Core.Option.{none};
 ghost use lib.ListN.{length};
+ghost use Rattle.plane.specs.Lists.{atStart};
 ghost use Rattle.plane.specs.Words.{flatPoints};
-ghost use Rattle.rule.specs.Answers.{written};
-ghost use Rattle.rule.specs.Checks.{accepted, placeGiven};
+ghost use Rattle.entry.specs.Checks.{accepted, verdict};
+ghost use Rattle.entry.specs.Entry.{counted};
 ghost use Rattle.numerals.specs.Numerals.{numberOf};
 ghost use Rattle.reading.specs.Lines.{beforeFirst, afterFirst, space, pointFrom, linesOf};
 ghost use Rattle.reading.specs.Reading.{pointsRead, ReadDone};
-ghost use Rattle.reading.specs.Inner.{numberIn, parsed, lineFrom, linesCheck, linesSay};
+ghost use Rattle.reading.specs.Inner.{readAs, parsed, lineFrom, linesChecks};
+use entry::Counted;
+use entry::DONE;
+use entry::MANY;
+use entry::ROOM;
+use entry::TEXT;
+use entry::done;
+use entry::refusal;
 use numerals::Numeral;
 use numerals::number_of;
 use plane::MOST_POINTS;
 use plane::Point;
-use rule::DONE;
-use rule::MANY;
-use rule::ROOM;
-use rule::TEXT;
 
 // The most bytes of a text.
 pub const MOST_BYTES: usize = 65536;
@@ -28,13 +31,6 @@ pub const MOST_LINES: usize = MOST_POINTS;
 const NEWLINE: u8 = 10;
 
 const SPACE: u8 = 32;
-
-// The reader's answer: the count is of points. On a refusal it is 0.
-pub struct ReadAnswer {
-    pub answer: u32,
-    pub place: u64,
-    pub count: usize,
-}
 
 // ---- A line
 
@@ -66,7 +62,7 @@ fn find(bytes: &[u8], c: u8) -> usize
 
 // The point of two numbers.
 fn paired(x: Numeral, y: Numeral) -> Parsed
-    ensures { λ r. ⌜ r ≡ parsed (pointFrom (numberIn x) (numberIn y)) ⌝ }
+    ensures { λ r. ⌜ r ≡ parsed (pointFrom (readAs x) (readAs y)) ⌝ }
 {
     let Numeral::Number { value: a } = x else {
         return Parsed::None;
@@ -113,14 +109,9 @@ fn read_line(text: &[u8], at: usize) -> LineRead
 
 // ---- All lines
 
-// The lines of a text: how many, all of them good, or the first bad one.
-enum LinesChecked {
-    AllGood { count: usize },
-    BadAt { line: usize },
-}
-
-fn check_lines(text: &[u8]) -> LinesChecked
-    ensures { λ r. ⌜ r ≡ linesSay (placeGiven (linesCheck (now (text .entry)))) (length (linesOf (now (text .entry)))) ⌝ }
+// The lines of a text: how many, all of them good; or TEXT, at the first bad one.
+fn check_lines(text: &[u8]) -> Counted
+    ensures { λ r. ⌜ r ≡ counted (verdict (linesChecks (now (text .entry)))) (length (linesOf (now (text .entry)))) ⌝ }
 {
     let mut at = 0;
     let mut count: usize = 0;
@@ -131,18 +122,18 @@ fn check_lines(text: &[u8]) -> LinesChecked
                 count += 1;
             }
             LineRead::Unread => {
-                return LinesChecked::BadAt { line: count };
+                return refusal(TEXT, count as u64);
             }
         }
     }
-    LinesChecked::AllGood { count: count }
+    done(count)
 }
 
 // Writes the points of good lines.
 fn write_points(text: &[u8], points: &mut [i32])
-    requires { ⌜ placeGiven (linesCheck (now text)) ≡ none ⌝ }
+    requires { ⌜ verdict (linesChecks (now text)) ≡ accepted ⌝ }
     requires { ⌜ 2 * length (linesOf (now text)) ≤ length (now points) ⌝ }
-    ensures { λ r. ⌜ now (points .exit) ≡ written accepted (flatPoints (pointsRead (now (text .entry)))) (now (points .entry)) ⌝ }
+    ensures { λ r. ⌜ now (points .exit) ≡ atStart (flatPoints (pointsRead (now (text .entry)))) (now (points .entry)) ⌝ }
 {
     let mut at = 0;
     let mut i: usize = 0;
@@ -165,44 +156,23 @@ fn write_points(text: &[u8], points: &mut [i32])
 
 // ---- The reader
 
-fn read(count: usize) -> ReadAnswer
-    ensures { λ r. ⌜ r ≡ record { answer = 0; place = 0; count = count } ⌝ }
-{
-    ReadAnswer {
-        answer: DONE,
-        place: 0,
-        count: count,
-    }
-}
-
-fn unread(answer: u32, place: u64) -> ReadAnswer
-    ensures { λ r. ⌜ r ≡ record { answer = answer; place = place; count = 0 } ⌝ }
-{
-    ReadAnswer {
-        answer: answer,
-        place: place,
-        count: 0,
-    }
-}
-
 // The points of a text's lines, written to `points`, with their count; or a refusal, which leaves `points` as it was.
-pub fn read_points(text: &[u8], points: &mut [i32]) -> ReadAnswer
+pub fn read_points(text: &[u8], points: &mut [i32]) -> Counted
     ensures { λ r. ⌜ ReadDone (now (text .entry)) (now (points .entry)) r (now (points .exit)) ⌝ }
 {
     if MOST_BYTES < text.len() {
-        return unread(MANY, 0);
+        return refusal(MANY, 0);
     }
-    match check_lines(text) {
-        LinesChecked::BadAt { line } => unread(TEXT, line as u64),
-        LinesChecked::AllGood { count } => {
-            if MOST_LINES < count {
-                return unread(MANY, 0);
-            }
-            if points.len() / 2 < count {
-                return unread(ROOM, count as u64);
-            }
-            write_points(text, points);
-            read(count)
-        }
+    let lines = check_lines(text);
+    if lines.answer != DONE {
+        return lines;
     }
+    if MOST_LINES < lines.count {
+        return refusal(MANY, 0);
+    }
+    if points.len() / 2 < lines.count {
+        return refusal(ROOM, lines.count as u64);
+    }
+    write_points(text, points);
+    lines
 }

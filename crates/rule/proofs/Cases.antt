@@ -4,16 +4,19 @@ use mathlib.Core.Bool.{xor}
 use mathlib.Core.List.{map}
 use Rattle.plane.specs.Lists.{any, odd, only, sum}
 use Rattle.plane.specs.Words.{eqZ, inRange, pointsOf, flatPoints, pointInRange, same, onRow, inColumn, before, insert, inOrder, foursOf, rectsOf, flatRects, rectInRange, flat, cornersOf, areaOf, edgeOf}
+use Rattle.entry.specs.Checks.{firstFrom, judged, verdict}
 use Rattle.rule.specs.Rule.{firstOf, pickK, rightOf, pickL, over, leftOf, stops, stopper, pickM, rectOf, placeOf, remove, add, toggle, toggleFour, takeRect, step, run, ruleList}
 use Rattle.rule.specs.Back.{isCorner, corners, oddCorner, backList}
-use Rattle.rule.specs.Answers.{workOf, forwardAnswer, forwardOut, forwardWork, backwardAnswer, backwardOut, stepAnswer, stepWork, forwardChecks, backwardChecks, stepChecks}
+use Rattle.rule.specs.Working.{padded, workOf}
+use Rattle.rule.specs.ForwardCall.{forwardAnswer, forwardOut, forwardWork, forwardChecks, inputChecks}
+use Rattle.rule.specs.BackwardCall.{backwardChecks}
+use Rattle.rule.specs.StepCall.{stepAnswer, stepWork, stepChecks}
 use Rattle.rule.specs.Cases.{paperM, paperStep, paperList, gives, cases}
-use Rattle.rule.specs.Checks.{rowNumber, firstFrom, placeGiven, verdict}
 use Rattle.rule.specs.Rows.{pointChecks}
 
 pub cases-hold : map (λ line. gives (line .asked)) cases ≡ map (λ line. line .says) cases
 unfolding xor any odd only sum eqZ inRange pointsOf flatPoints pointInRange same onRow inColumn before insert inOrder foursOf rectsOf flatRects rectInRange flat cornersOf areaOf edgeOf
     firstOf pickK rightOf pickL over leftOf stops stopper pickM rectOf placeOf remove add toggle toggleFour takeRect step run ruleList
-    isCorner corners oddCorner backList rowNumber pointChecks forwardChecks backwardChecks stepChecks firstFrom placeGiven verdict
-    workOf forwardAnswer forwardOut forwardWork backwardAnswer backwardOut stepAnswer stepWork paperM paperStep paperList gives cases
+    isCorner corners oddCorner backList pointChecks inputChecks forwardChecks backwardChecks stepChecks firstFrom judged verdict
+    padded workOf forwardAnswer forwardOut forwardWork stepAnswer stepWork paperM paperStep paperList gives cases
 cases-hold = refl

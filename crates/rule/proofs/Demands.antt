@@ -12,12 +12,14 @@ use Rattle.plane.specs.Lists.{bit, count, odd}
 use Rattle.plane.specs.Words.{marks, holds, cells, pointsOf, flatPoints, rectsOf, flatRects, inOrder, rectSize, mostPoints, mostRects}
 use Rattle.plane.proofs.Arrays.{length-points, points-flat, length-flat-points, rects-flat, length-flat-rects}
 use Rattle.plane.proofs.Rising.{inOrder-length}
+use Rattle.entry.specs.Checks.{Verdict, accepted, refused, verdict}
 use Rattle.rule.specs.Rule.{ruleList}
 use Rattle.rule.specs.Back.{backList}
-use Rattle.rule.specs.Answers.{forwardSays, forwardAnswer, backwardAnswer, backwardOut, forwardChecks, backwardChecks, ForwardAccepted, forwardList, forwardSums}
-use Rattle.rule.specs.Checks.{Verdict, accepted, refused, verdict}
+use Rattle.rule.specs.ForwardCall.{forwardSays, forwardAnswer, forwardChecks, ForwardAccepted, forwardList, forwardSums}
+use Rattle.rule.specs.BackwardCall.{backwardAnswer, backwardOut, backwardChecks}
 use Rattle.rule.specs.Rows.{Accepted, AcceptedRects}
-use Rattle.rule.proofs.Refusals.{forward-accepts-exactly, forward-accepted, backward-accepts-exactly, backward-accepted}
+use Rattle.rule.proofs.ForwardCall.{forward-accepts, forward-accepted}
+use Rattle.rule.proofs.BackwardCall.{backward-accepts, backward-accepted}
 use Rattle.rule.proofs.Cover.{rule-covers}
 use Rattle.rule.proofs.Canon.{rule-canon}
 use Rattle.rule.proofs.Rising.{rule-rects}
@@ -30,7 +32,7 @@ use Rattle.rule.proofs.RoundTrip.{forward-backward, backward-forward}
 module _ (a : List ℤ) (work out : ℕ) (done : forwardAnswer a work out .answer ≡ 0) where
   -- the checks accept
   pub forward-verdict : verdict (forwardChecks a work out) ≡ accepted
-  forward-verdict = forward-accepts-exactly a work out .0 done
+  forward-verdict = forward-accepts a work out .0 done
 
   -- the points are accepted
   pub array-accepted : Accepted (pointsOf a)
@@ -76,7 +78,6 @@ pub forward-then-backward :
     (a : List ℤ) (work out : ℕ) (points : List ℤ) → forwardAnswer a work out .answer ≡ 0 → length (forwardList a) ≤ mostRects → length a ≤ length points →
     let list = flatRects (forwardList a) in
     (backwardAnswer list (length points) ≡ record { answer = 0; place = 0; count = length a / 2 }) × (backwardOut list points ≡ flatPoints (inOrder (pointsOf a)) ++ drop (length a) points)
-unfolding backwardAnswer backwardOut
 forward-then-backward a work out points done few room =
     let ps = pointsOf a in
     let fits : ForwardAccepted a work out = forward-accepted a work out .0 (forward-verdict a work out done) in
@@ -90,14 +91,14 @@ forward-then-backward a work out points done few room =
 
 -- the rectangles that backward read
 rects-accepted : (r : List ℤ) (points : ℕ) → backwardAnswer r points .answer ≡ 0 → AcceptedRects (rectsOf r)
-rects-accepted r points done = backward-accepted r points .0 (backward-accepts-exactly r points .0 done) .rects
+rects-accepted r points done = backward-accepted r points .0 (backward-accepts r points .0 done) .rects
 
 -- forward accepts what backward answers, where it has at most 4,096 points and there is room
 pub backward-then-forward : (r : List ℤ) (points work out : ℕ) → backwardAnswer r points .answer ≡ 0 → let ps = backList (rectsOf r) in length ps ≤ mostPoints → 2 * length ps ≤ work → length (ruleList ps) ≤ out / rectSize → forwardAnswer (flatPoints ps) work out .answer ≡ 0
 backward-then-forward r points work out done few working room =
     let ps = backList (rectsOf r) in
     let two = length-flat-points ps in
-    forward-accepts-exactly (flatPoints ps) work out .1 (forward-accepted (flatPoints ps) work out .1 (record { even = omega arith; few = omega arith; working = omega arith; points = rw (points-flat ps) (back-accepted (rectsOf r) (rects-accepted r points done)); room = rw (points-flat ps) room }))
+    forward-accepts (flatPoints ps) work out .1 (forward-accepted (flatPoints ps) work out .1 (record { even = omega arith; few = omega arith; working = omega arith; points = rw (points-flat ps) (back-accepted (rectsOf r) (rects-accepted r points done)); room = rw (points-flat ps) room }))
 
 -- two rectangle lists that backward accepts have equal forward lists exactly when the same cells lie in an odd number of rectangles of each
 pub two-lists : (r s : List ℤ) (pr ps : ℕ) → backwardAnswer r pr .answer ≡ 0 → backwardAnswer s ps .answer ≡ 0 → (forwardList (flatPoints (backList (rectsOf r))) ≡ forwardList (flatPoints (backList (rectsOf s)))) ↔ ((x y : ℤ) → odd (holds x y) (rectsOf r) ≡ odd (holds x y) (rectsOf s))

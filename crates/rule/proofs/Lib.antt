@@ -1,7 +1,6 @@
 pub mod Cases
-pub mod Verdicts
-pub mod Search
-pub mod Refusals
+pub mod Rows
+pub mod Working
 pub mod Toggle
 pub mod Picks
 pub mod Inside
@@ -13,6 +12,7 @@ pub mod Canon
 pub mod Area
 pub mod Backward
 pub mod RoundTrip
+pub mod ForwardCall
+pub mod BackwardCall
+pub mod StepCall
 pub mod Demands
-pub mod Memory
-pub mod Outcomes

@@ -14,8 +14,8 @@ use Rattle.plane.proofs.Bools.{isOdd, isOdd-bit, xor-back}
 use Rattle.plane.proofs.Sums.{sum-last-added, sum-remove, sum-length, count-sum}
 use Rattle.plane.proofs.Parity.{odd-sum}
 use Rattle.plane.proofs.Points.{same-is}
+use Rattle.entry.specs.Checks.{firstFrom, firstBad}
 use Rattle.rule.specs.Rule.{further, placeOf, remove, add, toggleAt, toggle, toggleFour}
-use Rattle.rule.specs.Checks.{firstFrom}
 
 -- ---- Where a point stands
 
@@ -35,24 +35,25 @@ placed p (q ∷ qs) = go (same p q) refl (placeOf p qs) (placed p qs)
     go false e (some i) (stands h g) = stands {i = suc i} (omega arith) g
 
 -- a search that starts one further finds one further
-first-suc : (t : ℕ → Bool) (i n : ℕ) → firstFrom (suc i) n t ≡ further false (firstFrom i n (λ j. t (suc j)))
+first-suc : (t : ℕ → Bool) (i n : ℕ) → firstFrom (suc i) n t ≡ suc (firstFrom i n (λ j. t (suc j)))
 unfolding firstFrom
 first-suc t i zero = refl
-first-suc t i (suc n) = go (t (suc i)) _ (first-suc t (suc i) n)
+first-suc t i (suc n) = go (t (suc i)) (first-suc t (suc i) n)
   where
-    go : (b : Bool) {o : Option ℕ} (u : Option ℕ) → o ≡ further false u → cond b (some (suc i)) o ≡ further false (cond b (some i) u)
-    go true u e = refl
-    go false u e = e
+    go : (b : Bool) {m n : ℕ} → m ≡ suc n → cond b (suc i) m ≡ suc (cond b i n)
+    go true e = refl
+    go false e = e
 
 -- the place of a point is the first place that holds it
-pub place-first : (p : Point) (ps : List Point) → placeOf p ps ≡ firstFrom 0 (length ps) (λ i. same p (pointAt ps i))
+pub place-first : (p : Point) (ps : List Point) → Option·getD (placeOf p ps) (length ps) ≡ firstBad (length ps) (λ i. same p (pointAt ps i))
 unfolding placeOf firstFrom
 place-first p [] = refl
-place-first p (q ∷ qs) = go (same p q) (placeOf p qs) (first-suc (λ i. same p (pointAt (q ∷ qs) i)) 0 (length qs) ∙ ap (further false) (sym (place-first p qs)))
+place-first p (q ∷ qs) = go (same p q) (placeOf p qs) (place-first p qs) ∙ ap (cond (same p q) 0) (sym (first-suc (λ i. same p (pointAt (q ∷ qs) i)) 0 (length qs)))
   where
-    go : (b : Bool) {o : Option ℕ} (u : Option ℕ) → o ≡ further false u → further b u ≡ cond b (some 0) o
-    go true u e = refl
-    go false u e = sym e
+    go : (b : Bool) (o : Option ℕ) {m : ℕ} → Option·getD o (length qs) ≡ m → Option·getD (further b o) (suc (length qs)) ≡ cond b 0 (suc m)
+    go true o e = refl
+    go false none e = ap suc e
+    go false (some i) e = ap suc e
 
 -- ---- One toggle
 

@@ -11,7 +11,9 @@ use Rattle.plane.specs.declared.Rect.{Rect}
 use Rattle.plane.specs.Lists.{any, sum}
 use Rattle.plane.specs.Words.{lowEnd, highEnd, pointsOf, flatRects, areaOf, rectSize}
 use Rattle.rule.specs.Rule.{Taken, firstOf, over, pickK, pickL, takeRect, run, enough}
-use Rattle.rule.specs.Answers.{forwardAnswer, forwardOut, forwardWork, backwardAnswer, backwardOut, stepAnswer, stepWork, stepNumber, stepPlace, stepValues}
+use Rattle.rule.specs.ForwardCall.{forwardAnswer, forwardOut, forwardWork}
+use Rattle.rule.specs.BackwardCall.{backwardAnswer, backwardOut}
+use Rattle.rule.specs.StepCall.{stepAnswer, stepWork, stepNumber, stepPlace, stepValues}
 
 -- ---- What is asked
 

@@ -1,6 +1,8 @@
 pub mod Rule
 pub mod Back
-pub mod Checks
 pub mod Rows
-pub mod Answers
+pub mod Working
+pub mod ForwardCall
+pub mod BackwardCall
+pub mod StepCall
 pub mod Cases

@@ -10,21 +10,23 @@ use Rattle.plane.specs.declared.Point.{Point}
 use Rattle.plane.specs.declared.Rect.{Rect}
 use Rattle.plane.specs.Lists.{any, odd, count}
 use Rattle.plane.specs.Words.{pointAt, same, onRow, inColumn, pointInRange, rectAt, rectInRange, flat}
-use Rattle.rule.specs.Checks.{Check, whole, each, needs}
+use Rattle.entry.specs.declared.Counted.{Counted}
+use Rattle.entry.specs.Checks.{Check, whole, each, needs, verdict}
+use Rattle.entry.specs.Entry.{counted}
 
 -- ---- The rows
 
 -- 1 LENGTH: the array's length is not a multiple of the numbers to an item
 abbrev pub LENGTH : (numbers item : ℕ) → Check
-LENGTH numbers item = whole 1 (not (eqb (numbers % item) 0))
+LENGTH numbers item = whole 1 0 (not (eqb (numbers % item) 0))
 
 -- 2 MANY: over the most items
 abbrev pub MANY : (most items : ℕ) → Check
-MANY most items = whole 2 (ltb most items)
+MANY most items = whole 2 0 (ltb most items)
 
 -- 3 WORK: the working array is shorter than two numbers per point
 abbrev pub WORK : (work points : ℕ) → Check
-WORK work points = whole 3 (ltb work (2 * points))
+WORK work points = whole 3 0 (ltb work (2 * points))
 
 -- 4 RANGE: a coordinate out of range
 abbrev pub RANGE : List Point → Check
@@ -56,7 +58,7 @@ FLAT rs = each 9 (length rs) (λ i. flat (rectAt rs i))
 
 -- 10 DRAINED: a step asked with no points left
 abbrev pub DRAINED : (points : ℕ) → Check
-DRAINED points = whole 10 (eqb points 0)
+DRAINED points = whole 10 0 (eqb points 0)
 
 -- 11 TEXT: the program's input has a bad line
 abbrev pub TEXT : (lines : ℕ) (bad : ℕ → Bool) → Check
@@ -65,6 +67,10 @@ TEXT lines bad = each 11 lines bad
 -- what forward and a step ask of the points themselves: 4, 5, 6, 7
 unfoldable pub pointChecks : List Point → List Check
 pointChecks ps = RANGE ps ∷ REPEATED ps ∷ ROW ps ∷ COLUMN ps ∷ []
+
+-- how many points there are, or what is refused of them
+abbrev pub pointsSay : List Point → Counted
+pointsSay ps = counted (verdict (pointChecks ps)) (length ps)
 
 -- ---- What is accepted
 

@@ -13,7 +13,7 @@ use Rattle.plane.proofs.Rising.{rising-once, inOrder-rising, inOrder-of, inOrde
 use Rattle.ordering.specs.Orders.{rowOrder}
 use Rattle.ordering.proofs.Orders.{order-length, row-order-points}
 use Rattle.rule.specs.Rows.{Accepted}
-use Rattle.rule.specs.Answers.{ForwardAccepted}
+use Rattle.rule.specs.ForwardCall.{ForwardAccepted}
 use Rattle.rule.proofs.Canon.{alike-list}
 use Rattle.sweep.specs.Inner.{sweptPoints, StandFor}
 

@@ -10,4 +10,3 @@ pub mod Cutting
 pub mod NextRow
 pub mod Putting
 pub mod Making
-pub mod BeforeRoom

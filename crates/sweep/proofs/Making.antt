@@ -10,15 +10,13 @@ use lib.Dec.{eqb}
 use borrow.Author.Tests.{eqb-true, eq-eqb}
 use Rattle.plane.specs.declared.Point.{Point}
 use Rattle.plane.specs.declared.Rect.{Rect}
-use Rattle.plane.specs.Lists.{bit, sum, sumBelow}
+use Rattle.plane.specs.Lists.{bit, sum, sumBelow, atStart}
 use Rattle.plane.specs.Words.{eqZ, rectSize, flatRects, flat, areaOf, edgeOf}
 use Rattle.plane.proofs.Bools.{clash}
 use Rattle.plane.proofs.Sums.{sum-length, count-sum, count-find, below-grows, below-has, below-list}
 use Rattle.plane.proofs.Places.{stretch-none}
 use Rattle.rule.specs.Rule.{ruleList}
-use Rattle.rule.specs.Answers.{written}
 use Rattle.rule.specs.Rows.{Accepted}
-use Rattle.rule.specs.Checks.{accepted}
 use Rattle.live.specs.Stands.{far, rectNo}
 use Rattle.live.proofs.Moves.{starts}
 use Rattle.live.proofs.Numbered.{list-at, rect-no-solid}
@@ -208,6 +206,6 @@ module _ {qs : List Point} {writes : Bool} {work₀ rects₀ work rects : List �
       let edges : edge ≡ sum edgeOf (ruleList qs) = m .edges ∙ list-summed edgeOf in
       record { kept = kept-on (m .kept) (all .kept); answer = λ i. record { answer = 0; place = 0; count = count i; area = areas i; edge = edges i }; output = go writes refl (m .output) }
     where
-      go : (b : Bool) → writes ≡ b → Output b qs (m .finished) rects₀ rects → rects ≡ cond b (written accepted (flatRects (ruleList qs)) rects₀) rects₀
+      go : (b : Bool) → writes ≡ b → Output b qs (m .finished) rects₀ rects → rects ≡ cond b (atStart (flatRects (ruleList qs)) rects₀) rects₀
       go true e o = puts-all (m .room e) o (m .underway .ready .points) all-there
       go false e o = o

@@ -1,15 +1,15 @@
 -- Working arrays of which only the start is changed, and the start zeroed.
 use Prim.Native.Nat.{ℕ, _+_, _-_, _*_, _≤_}
-use native.Mathlib.Nat.{sub-zero}
 use native.Mathlib.Omega.{arith}
 use mathlib.Core.Path.{_≡_, refl, sym, ap, _∙_}
 use mathlib.Core.List.{List, []}
-use lib.ListN.{drop}
+use lib.ListN.{drop, length-replicate}
 use lib.Seq.{drop-drop}
-use lib.IntN.{ℤ}
+use lib.IntN.{ℤ, pos}
 use Rattle.plane.specs.declared.Rect.{Rect}
-use Rattle.plane.specs.Words.{flatPoints, rectSize}
-use Rattle.rule.specs.Answers.{workOf}
+use Rattle.plane.specs.Words.{rectSize}
+use Rattle.rule.specs.Working.{workOf}
+use Rattle.rule.proofs.Working.{padded-none}
 use Rattle.live.specs.declared.Live.{Live}
 use Rattle.sweep.specs.Inner.{putFour, putRect, liveSize, putLive, KeptPast, zeroed}
 use Rattle.sweep.proofs.Lives.{length-put, drop-put}
@@ -43,5 +43,5 @@ kept-live n a i k h = kept-four n a (liveSize * i) (k .left) (k .right) (k .row)
 
 -- with its start zeroed it holds no points
 pub kept-drained : {l m n : ℕ} {before after : List ℤ} → l ≡ n → m ≡ n → KeptPast (2 * l) before after → zeroed (2 * m) after ≡ workOf n [] before
-unfolding workOf flatPoints
-kept-drained {n = n} d e k = let p = rw d at (k .same-past) in rw (e, p, sub-zero n)
+unfolding workOf
+kept-drained {n = n} d e k = let p = rw d at (k .same-past) in rw (e, padded-none n, length-replicate (2 * n) (pos 0), p)

@@ -11,12 +11,11 @@ use lib.Dec.{eqb}
 use borrow.Author.Tests.{eqb-true, eqb-false}
 use Rattle.plane.specs.declared.Point.{Point}
 use Rattle.plane.specs.declared.Rect.{Rect}
+use Rattle.plane.specs.Lists.{atStart}
 use Rattle.plane.specs.Words.{rectSize, rectsOf, flatRects, rectAt}
 use Rattle.plane.proofs.Arrays.{length-rects, length-flat-rects, rects-rest, rects-set}
 use Rattle.rule.specs.Rule.{ruleList}
-use Rattle.rule.specs.Answers.{written}
 use Rattle.rule.specs.Rows.{Accepted}
-use Rattle.rule.specs.Checks.{accepted}
 use Rattle.live.specs.Stands.{rectNo}
 use Rattle.live.proofs.Numbered.{list-at}
 use Rattle.sweep.specs.Inner.{putRect, KeptPast}
@@ -51,7 +50,7 @@ module _ {ps : List Point} {finished : List ℕ} {out₀ out : List ℤ} (room :
       go j (tail m) false e = getD-set-other (rectsOf out) i j (rectNo ps i) _ (eqb-false j i e) ∙ w .each j m
 
   -- with all put, the output is the list's
-  pub puts-all : Accepted ps → ((i : ℕ) → i < length (ruleList ps) → In i finished) → out ≡ written accepted (flatRects (ruleList ps)) out₀
+  pub puts-all : Accepted ps → ((i : ℕ) → i < length (ruleList ps) → In i finished) → out ≡ atStart (flatRects (ruleList ps)) out₀
   puts-all acc all =
       let n : ℕ = length (ruleList ps) in
       let first : List Rect = take n (rectsOf out) in

@@ -3,21 +3,21 @@ use Prim.Native.Nat.{ℕ, _+_, _-_, _*_, _/_, _<_, _≤_}
 use mathlib.Core.Path.{_≡_}
 use mathlib.Core.Logic.{_⊎_}
 use mathlib.Core.Bool.{Bool, true, not, cond}
-use mathlib.Core.List.{List, [], _∷_, _++_}
+use mathlib.Core.List.{List, [], _++_}
 use lib.ListN.{length, getD, take, drop, set, replicate}
 use lib.IntN.{ℤ, pos, _-ℤ_}
 use lib.Signed.{leZ, ltZ}
 use lib.Dec.{ltb}
 use Rattle.plane.specs.declared.Point.{Point}
 use Rattle.plane.specs.declared.Rect.{Rect}
-use Rattle.plane.specs.Lists.{bit, sum, sumBelow}
+use Rattle.plane.specs.Lists.{bit, sum, sumBelow, atStart}
 use Rattle.plane.specs.Words.{eqZ, pointsOf, rectSize, foursOf, flatRects, rising, pointAt, mostPoints}
+use Rattle.ordering.specs.Orders.{rowOrder, pointsAt}
+use Rattle.entry.specs.Checks.{accepted, verdict}
 use Rattle.rule.specs.declared.ForwardAnswer.{ForwardAnswer}
 use Rattle.rule.specs.Rule.{ruleList}
-use Rattle.rule.specs.Answers.{forwardSays, written, sumsOf, forwardList}
-use Rattle.ordering.specs.Orders.{rowOrder, pointsAt}
-use Rattle.rule.specs.Checks.{Check, accepted, verdict}
-use Rattle.rule.specs.Rows.{LENGTH, MANY, WORK, pointChecks, Accepted}
+use Rattle.rule.specs.ForwardCall.{forwardSays, sumsOf, forwardList, inputChecks}
+use Rattle.rule.specs.Rows.{Accepted}
 use Rattle.live.specs.declared.Live.{Live}
 use Rattle.live.specs.Stands.{far, firstRow, number, rectNo, stand, nextOn, Stand, Sweeping}
 use Rattle.sweep.specs.declared.Sweep.{Sweep}
@@ -63,7 +63,7 @@ pub record KeptPast (n : ℕ) (before after : List ℤ) : Type 0 where
 
 -- an array with its first n numbers set to 0
 abbrev pub zeroed : ℕ → List ℤ → List ℤ
-zeroed n a = replicate n (pos 0) ++ drop n a
+zeroed n a = atStart (replicate n (pos 0)) a
 
 -- ---- What is next
 
@@ -295,15 +295,11 @@ Advanced qs z before (Refused k p) after = (moveNumber (Refused k p) ≡ 10) × 
 pub record Swept (qs : List Point) (writes : Bool) (work before : List ℤ) (r : ForwardAnswer) (work-after after : List ℤ) : Type 0 where
   pub kept : KeptPast (2 * length qs) work work-after
   pub answer : r ≡ forwardSays accepted (sumsOf (ruleList qs))
-  pub output : after ≡ cond writes (written accepted (flatRects (ruleList qs)) before) before
+  pub output : after ≡ cond writes (atStart (flatRects (ruleList qs)) before) before
 
 -- ---- Checks
 
--- forward's checks before the room is known: 1, 2, 3, 4, 5, 6, 7
-unfoldable pub inputChecks : (a : List ℤ) (work : ℕ) → List Check
-inputChecks a work = LENGTH (length a) 2 ∷ MANY mostPoints (length a / 2) ∷ WORK work (length a / 2) ∷ pointChecks (pointsOf a)
-
--- where they refuse nothing, places begin with those of the points in order
+-- where forward's checks before the list is known refuse nothing, places begin with those of the points in order
 pub record Ordered (a : List ℤ) (work : ℕ) (order : List ℕ) : Type 0 where
   pub in-order : verdict (inputChecks a work) ≡ accepted → take (length a / 2) order ≡ rowOrder (pointsOf a)
 

@@ -12,31 +12,31 @@ ghost use lib.ListN.{length};
 ghost use lib.IntN.{pos, _-ℤ_};
 ghost use lib.Signed.{ltZ, leZ};
 ghost use Prim.Native.Nat.{_+_, _*_, _<_, _≤_};
-ghost use Rattle.plane.specs.Words.{eqZ, rectSize, flat, areaOf, edgeOf, mostPoints};
+ghost use Rattle.plane.specs.Words.{eqZ, pointsOf, rectSize, flat, areaOf, edgeOf, mostPoints};
+ghost use Rattle.entry.specs.Checks.{verdict};
+ghost use Rattle.entry.specs.Entry.{counted};
 ghost use Rattle.rule.specs.Rule.{ruleList};
-ghost use Rattle.rule.specs.Answers.{ForwardAccepted, forwardList, ForwardDone};
-ghost use Rattle.rule.specs.Checks.{verdict};
-ghost use Rattle.checks.specs.Screens.{screenOf};
+ghost use Rattle.rule.specs.ForwardCall.{ForwardAccepted, forwardList, ForwardDone, inputChecks};
 ghost use Rattle.live.specs.Stands.{far, number};
 ghost use Rattle.sweep.specs.Inner.{putRect, liveSize, liveAt, putLive, zeroed, farPoint, farLive, nextPoint, nextLive, onRowOf, carriedPoint, nearer};
 ghost use Rattle.sweep.specs.Inner.{withOpened, startOf, cancelled, takenFrom, newLive, endPut, endPutWork, passing, carrying, leftEnd, cutTo, cutWork};
-ghost use Rattle.sweep.specs.Inner.{endedBox, atRow, Turned, sweptPoints, Ready, Underway, Advanced, Swept, inputChecks, Ordered, StandFor, mostBegun};
-use checks::Screen;
+ghost use Rattle.sweep.specs.Inner.{endedBox, atRow, Turned, sweptPoints, Ready, Underway, Advanced, Swept, Ordered, StandFor, mostBegun};
 use checks::order_points;
-use checks::refused;
+use entry::Counted;
+use entry::DONE;
+use entry::DRAINED;
+use entry::LENGTH;
+use entry::MANY;
+use entry::ROOM;
+use entry::WORK;
+use entry::refusal;
 use live::Live;
 use plane::MOST_POINTS;
 use plane::Point;
 use plane::RECT_SIZE;
 use plane::Rect;
 use plane::point_at;
-use rule::DONE;
-use rule::DRAINED;
 use rule::ForwardAnswer;
-use rule::LENGTH;
-use rule::MANY;
-use rule::ROOM;
-use rule::WORK;
 
 // ---- Where a sweep stands
 
@@ -567,19 +567,19 @@ fn count_then_write(
 // ---- Checks
 
 // Forward's checks before the room is known. Where nothing is refused, `order` begins with the places of the points in order.
-fn check_input(points: &[i32], work: usize, order: &mut [u16; MOST_POINTS]) -> Screen
-    ensures { λ r. ⌜ r ≡ screenOf (verdict (inputChecks (now (points .entry)) work)) ⌝ }
+fn check_input(points: &[i32], work: usize, order: &mut [u16; MOST_POINTS]) -> Counted
+    ensures { λ r. ⌜ r ≡ counted (verdict (inputChecks (now (points .entry)) work)) (length (pointsOf (now (points .entry)))) ⌝ }
     ensures { λ r. ⌜ Ordered (now (points .entry)) work (now (order .exit)) ⌝ }
 {
     let n = points.len() / 2;
     if points.len() % 2 != 0 {
-        return refused(LENGTH);
+        return refusal(LENGTH, 0);
     }
     if MOST_POINTS < n {
-        return refused(MANY);
+        return refusal(MANY, 0);
     }
     if work < 2 * n {
-        return refused(WORK);
+        return refusal(WORK, 0);
     }
     order_points(points, order)
 }
@@ -592,11 +592,10 @@ pub fn sweep_points(points: &[i32], work: &mut [i32], rects: &mut [i32]) -> Forw
     ensures { λ r. ⌜ ForwardDone (now (points .entry)) (now (work .entry)) (now (rects .entry)) r (now (work .exit)) (now (rects .exit)) ⌝ }
 {
     let mut order: [u16; MOST_POINTS] = [0; MOST_POINTS];
-    match check_input(points, work.len(), &mut order) {
-        Screen::Clear => {
-            let n = points.len() / 2;
-            count_then_write(points, &order[0..n], work, rects)
-        }
-        Screen::Refused { answer, place } => no_list(answer, place),
+    let checked = check_input(points, work.len(), &mut order);
+    if checked.answer != DONE {
+        return no_list(checked.answer, checked.place);
     }
+    let n = points.len() / 2;
+    count_then_write(points, &order[0..n], work, rects)
 }

@@ -6,4 +6,3 @@ pub mod Reports
 pub mod Listing
 pub mod Kept
 pub mod Worked
-pub mod Outcomes

@@ -7,7 +7,7 @@ use lib.ListN.{length, take, length-append}
 use lib.Seq.{take-nil, take-suc}
 use Rattle.plane.specs.declared.Rect.{Rect}
 use Rattle.plane.specs.Words.{rectAt}
-use Rattle.rule.specs.Answers.{Sums}
+use Rattle.rule.specs.ForwardCall.{Sums}
 use Rattle.numerals.specs.Bytes.{ascii}
 use Rattle.numerals.proofs.Printing.{decimal-length}
 use Rattle.text.specs.Program.{sumsLine, rectLine, rectLines, refusalLine}

@@ -1,6 +1,6 @@
 -- What the program does with the points read, by forward's contract.
 use Prim.Native.Nat.{ℕ}
-use mathlib.Core.Path.{_≡_, refl, ap, _∙_}
+use mathlib.Core.Path.{_≡_, ap, _∙_}
 use mathlib.Core.Logic.{_≢_}
 use mathlib.Core.List.{List}
 use lib.ListN.{length}
@@ -8,11 +8,10 @@ use lib.IntN.{ℤ}
 use Rattle.plane.specs.declared.Point.{Point}
 use Rattle.plane.specs.Words.{origin}
 use Rattle.plane.proofs.Arrays.{points-flat}
+use Rattle.entry.specs.Checks.{accepted, refused, verdict}
+use Rattle.entry.proofs.Entry.{refused-is}
 use Rattle.rule.specs.declared.ForwardAnswer.{ForwardAnswer}
-use Rattle.rule.specs.Checks.{Verdict, accepted, refused, verdict}
-use Rattle.rule.specs.Answers.{ForwardDone, forwardList, forwardSums}
-use Rattle.rule.proofs.Verdicts.{numberIn, placeIn}
-use Rattle.rule.proofs.Refusals.{forward-says}
+use Rattle.rule.specs.ForwardCall.{forwardSays, forwardAnswer, ForwardDone, forwardList, forwardSums}
 use Rattle.rule.proofs.Demands.{forward-verdict}
 use Rattle.panbuckle.proofs.Kept.{answers-0, done-list, done-told}
 use Rattle.numerals.specs.Bytes.{putAt}
@@ -22,11 +21,6 @@ use Rattle.text.specs.Program.{mostWork, mostList, listLines, refusalLin
 use Rattle.text.specs.Inner.{says, listed, Listed}
 use Rattle.text.proofs.Checks.{program-forward, program-refused, text-names-none}
 
--- a refusal is its number and its place
-refusal-is : (v : Verdict) → numberIn v ≢ 0 → v ≡ refused (numberIn v) (placeIn v)
-refusal-is accepted n = absurd (n refl)
-refusal-is (refused k p) n = refl
-
 module _ {a work out : List ℤ} {r : ForwardAnswer} {work-after out-after : List ℤ} (d : ForwardDone a work out r work-after out-after) where
   -- with the program's room a list is accepted
   pub says-accepted : length work ≡ mostWork → length out ≡ mostList → r .answer ≡ 0 → says a ≡ accepted
@@ -34,11 +28,10 @@ module _ {a work out : List ℤ} {r : ForwardAnswer} {work-after out-after : Lis
 
   -- and anything else refused
   pub says-refused : length work ≡ mostWork → length out ≡ mostList → r .answer ≢ 0 → says a ≡ refused (r .answer) (r .place)
+  unfolding forwardAnswer
   says-refused w o n =
-      let says-it = forward-says a (length work) (length out) in
-      let number : r .answer ≡ numberIn (says a) = rw (w, o) at (ap (λ q. q .answer) (d .answer) ∙ says-it .0) in
-      let place : r .place ≡ placeIn (says a) = rw (w, o) at (ap (λ q. q .place) (d .answer) ∙ says-it .1) in
-      rw (number, place) (refusal-is (says a) (rw number at n))
+      let e : r ≡ forwardSays (says a) (forwardSums a) = rw (w, o) at (d .answer) in
+      rw e (refused-is (says a) (rw e at n))
 
   -- a list is printed as the rule's
   pub listed-lines : r .answer ≡ 0 → listed r out-after ≡ listLines (forwardSums a) (forwardList a)

@@ -11,18 +11,18 @@ use lib.ListN.{length, length-append}
 use lib.IntN.{ℤ, _+ℤ_}
 use lib.Signed.{mag}
 use lib.Dec.{eqb}
-use borrow.Author.Tests.{ltb-false}
 use Rattle.plane.specs.declared.Point.{Point}
 use Rattle.plane.specs.declared.Rect.{Rect}
 use Rattle.plane.specs.Words.{inRange, right, top, rectInRange, pointsOf}
 use Rattle.plane.proofs.Bools.{and-four}
 use Rattle.plane.proofs.Order.{add-up, mag-most, range-up, range-most}
 use Rattle.plane.proofs.Arrays.{points-flat}
+use Rattle.entry.specs.Checks.{by-whole, FirstGiven, this, later, Verdict, accepted, refused, verdict}
+use Rattle.entry.proofs.Verdicts.{PlacesWithin, place-within, clear-exactly, refused-exactly}
 use Rattle.rule.specs.Rule.{ruleList}
-use Rattle.rule.specs.Checks.{Check, whole, each, needs, Given, by-whole, by-item, by-need, FirstGiven, this, later, Verdict, accepted, refused, verdict}
 use Rattle.rule.specs.Rows.{MANY, pointChecks}
-use Rattle.rule.specs.Answers.{forwardChecks, ForwardAccepted, forwardList, Sums, forwardSums}
-use Rattle.rule.proofs.Verdicts.{clear-exactly, refused-exactly}
+use Rattle.rule.specs.ForwardCall.{forwardChecks, ForwardAccepted, forwardList, Sums, forwardSums, inputChecks}
+use Rattle.rule.proofs.Rows.{many-clear}
 use Rattle.rule.proofs.Bound.{rule-most}
 use Rattle.rule.proofs.Rising.{rule-rects}
 use Rattle.rule.proofs.Area.{rule-area-most, rule-edge-fits}
@@ -73,26 +73,6 @@ list-fits a work c =
 
 -- ---- A refusal's place
 
--- how far the places of a check go
-abbrev most : Check → ℕ
-most (whole k t) = 0
-most (each k n t) = n
-most (needs k n r) = n
-
-given-most : {c : Check} {p : ℕ} → Given c p → p ≤ most c
-given-most (by-whole e) = omega arith
-given-most (by-item i h e f) = omega arith
-given-most (by-need h) = omega arith
-
--- no check's places go past n
-abbrev Within : ℕ → List Check → Type 0
-Within n [] = Unit
-Within n (c ∷ checks) = (most c ≤ n) × Within n checks
-
-first-most : {checks : List Check} {k p n : ℕ} → Within n checks → FirstGiven checks k p → p ≤ n
-first-most h (this g) = omega (arith, given-most g)
-first-most h (later c f) = first-most (h .1) f
-
 -- a text has no more lines than bytes, and no more points than lines
 onto-length : (b : ℕ) (ls : List Line) → length (onto b ls) ≤ suc (length ls)
 onto-length b [] = omega arith
@@ -117,8 +97,8 @@ points-length (l ∷ ls) = go (linePoint l) (points-length ls)
     go (some p) h = omega arith
 
 -- the program's places are those of lines and points, of which there are at most 65,536, or the length of a list
-program-within : (t : List ℕ) → length t ≤ 65_536 → Within (2 ^ 32) (programChecks t)
-unfolding programChecks textChecks forwardChecks pointChecks
+program-within : (t : List ℕ) → length t ≤ 65_536 → PlacesWithin (2 ^ 32) (programChecks t)
+unfolding programChecks textChecks forwardChecks inputChecks pointChecks
 program-within t h =
     let ps = pointsRead t in
     let lines = lines-length t in
@@ -134,8 +114,8 @@ pub place-small : (t : List ℕ) {k p : ℕ} → FirstGiven (programChecks t) k 
 unfolding programChecks textChecks
 place-small t (this (by-whole e)) = omega arith
 place-small t (later n f) =
-    let h = ltb-false 65_536 (length t) (clear-exactly (MANY 65_536 (length t)) .1 n) in
-    omega (arith, first-most (program-within t h .1) f)
+    let h = many-clear 65_536 (length t) .0 (clear-exactly (MANY 65_536 (length t)) .1 n) in
+    place-within (2 ^ 32) (program-within t h .1) f
 
 -- ---- Whatever is printed
 

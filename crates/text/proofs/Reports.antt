@@ -12,8 +12,8 @@ use borrow.Author.Tests.{leb-true}
 use Rattle.plane.specs.declared.Point.{Point}
 use Rattle.plane.specs.Words.{pointAt}
 use Rattle.plane.proofs.Bools.{cond-case}
-use Rattle.rule.specs.Checks.{Verdict, accepted, refused, verdict}
-use Rattle.rule.proofs.Verdicts.{refused-exactly}
+use Rattle.entry.specs.Checks.{Verdict, accepted, refused, verdict}
+use Rattle.entry.proofs.Verdicts.{refused-exactly}
 use Rattle.numerals.specs.Numerals.{minus, valueOf, asPlain, asNegative, numberOf}
 use Rattle.reading.specs.Lines.{Line, beforeFirst, afterFirst, space, linesOf, pointFrom, linePoint, withPoint, pointsIn}
 use Rattle.reading.specs.Reading.{pointsRead}

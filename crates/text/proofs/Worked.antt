@@ -4,10 +4,10 @@ use mathlib.Core.Bool.{xor}
 use mathlib.Core.List.{[]}
 use Rattle.plane.specs.Lists.{any, odd, sum}
 use Rattle.plane.specs.Words.{eqZ, inRange, pointsOf, flatPoints, pointInRange, same, onRow, inColumn, before, areaOf, edgeOf}
+use Rattle.entry.specs.Checks.{firstFrom, judged, verdict}
 use Rattle.rule.specs.Rule.{firstOf, pickK, rightOf, pickL, over, leftOf, stops, stopper, pickM, rectOf, placeOf, remove, add, toggle, toggleFour, takeRect, step, run, ruleList}
-use Rattle.rule.specs.Checks.{rowNumber as rowOf, firstFrom, placeGiven, verdict}
 use Rattle.rule.specs.Rows.{pointChecks}
-use Rattle.rule.specs.Answers.{forwardChecks}
+use Rattle.rule.specs.ForwardCall.{forwardChecks, inputChecks}
 use Rattle.numerals.specs.Bytes.{ascii}
 use Rattle.numerals.specs.Numerals.{isDigit, areDigits, oneToTen, valueAfter, valueOf, numberOf, digitsOf, decimal, signed}
 use Rattle.reading.specs.Lines.{beforeFirst as upTo, afterFirst, linesOf, linePoint, isBad, pointsIn}
@@ -16,14 +16,14 @@ use Rattle.text.specs.Program.{programChecks, sumsLine, rectLine, rectLi
 
 -- no points
 pub empty-prints : programPrints [] ≡ ascii "rects 0 area 0 edge 0\n"
-unfolding sum pointsOf flatPoints run ruleList rowOf pointChecks forwardChecks firstFrom placeGiven verdict digitsOf decimal linesOf pointsIn textChecks programChecks sumsLine rectLines listLines programPrints
+unfolding sum pointsOf flatPoints run ruleList pointChecks inputChecks forwardChecks firstFrom judged verdict digitsOf decimal linesOf pointsIn textChecks programChecks sumsLine rectLines listLines programPrints
 empty-prints = refl
 
 -- case B
 pub case-b-prints : programPrints (ascii "0 0\n4 0\n4 1\n8 1\n8 3\n4 3\n4 5\n1 5\n1 3\n0 3\n") ≡ ascii "rects 3 area 26 edge 36\n0 0 4 3\n4 1 4 2\n1 3 3 2\n"
 unfolding xor any odd sum eqZ inRange pointsOf flatPoints pointInRange same onRow inColumn before areaOf edgeOf
     firstOf pickK rightOf pickL over leftOf stops stopper pickM rectOf placeOf remove add toggle toggleFour takeRect step run ruleList
-    rowOf pointChecks forwardChecks firstFrom placeGiven verdict
+    pointChecks inputChecks forwardChecks firstFrom judged verdict
     isDigit areDigits oneToTen valueAfter valueOf numberOf digitsOf decimal signed
     upTo afterFirst linesOf linePoint isBad pointsIn textChecks programChecks sumsLine rectLine rectLines listLines programPrints
 case-b-prints = refl

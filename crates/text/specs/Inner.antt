@@ -5,9 +5,9 @@ use mathlib.Core.List.{List, _++_}
 use lib.ListN.{length}
 use lib.IntN.{ℤ}
 use Rattle.plane.specs.Words.{pointsOf}
+use Rattle.entry.specs.Checks.{Verdict, verdict}
 use Rattle.rule.specs.declared.ForwardAnswer.{ForwardAnswer}
-use Rattle.rule.specs.Checks.{Verdict, verdict}
-use Rattle.rule.specs.Answers.{forwardChecks, forwardList, sumsTold, forwardSums, listOf}
+use Rattle.rule.specs.ForwardCall.{forwardChecks, forwardList, sumsTold, forwardSums, listOf}
 use Rattle.numerals.specs.Bytes.{putAt}
 use Rattle.numerals.specs.Numerals.{decimal, signed}
 use Rattle.text.specs.declared.Report.{Report}

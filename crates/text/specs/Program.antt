@@ -9,8 +9,9 @@ use lib.Dec.{leb}
 use Rattle.plane.specs.declared.Point.{Point}
 use Rattle.plane.specs.declared.Rect.{Rect}
 use Rattle.plane.specs.Words.{origin, flatPoints, pointAt, rectSize, mostPoints}
-use Rattle.rule.specs.Checks.{Check, Verdict, accepted, refused, verdict}
-use Rattle.rule.specs.Answers.{forwardChecks, Sums, forwardSums, forwardList}
+use Rattle.entry.specs.Checks.{Check, Verdict, accepted, refused, verdict}
+use Rattle.entry.specs.Entry.{numberIn, placeIn}
+use Rattle.rule.specs.ForwardCall.{forwardChecks, Sums, forwardSums, forwardList}
 use Rattle.numerals.specs.Bytes.{ascii, putAt}
 use Rattle.numerals.specs.Numerals.{decimal, signed}
 use Rattle.reading.specs.Reading.{pointsRead, textChecks}
@@ -80,10 +81,14 @@ namesOne k = leb 4 k && leb k 7
 unfoldable pub offender : (number place : ℕ) → List Point → Point
 offender k p ps = cond (namesOne k) (pointAt ps p) origin
 
+-- the same of a verdict; (0, 0), if nothing is refused
+abbrev pub named : Verdict → List Point → Point
+named accepted ps = origin
+named (refused k p) ps = offender k p ps
+
 -- answer, place, the point named, and how many bytes were read and printed
 abbrev pub reportSays : Verdict → List Point → (read printed : ℕ) → Report
-reportSays accepted ps read n = record { answer = 0; place = 0; point = origin; read = read; printed = n }
-reportSays (refused k p) ps read n = record { answer = k; place = p; point = offender k p ps; read = read; printed = n }
+reportSays v ps read n = record { answer = numberIn v; place = placeIn v; point = named v ps; read = read; printed = n }
 
 -- what the program knows at its end, of what it reads
 unfoldable pub programReport : List ℕ → Report

@@ -4,8 +4,8 @@ use mathlib.Core.Path.{_≡_, _∙_}
 use lib.ListN.{length, replicate, length-replicate}
 use lib.IntN.{pos}
 use borrow.Author.Needs.{needs}
-use Rattle.rule.specs.Answers.{ForwardDone}
-use Rattle.panbuckle.proofs.Kept.{lengths-kept}
+use Rattle.rule.specs.ForwardCall.{ForwardDone}
+use Rattle.rule.proofs.ForwardCall.{forward-leaves}
 use Rattle.text.specs.Program.{mostWork, mostList}
 use Rattle.drawing.proofs.Shown.{Made, list-made}
 use Rattle.drawing.proofs.draw.Statement.{statement}
@@ -25,7 +25,7 @@ put-picture-requires : tie.Need-put-picture-requires
 put-picture-requires c κs =
     let f = c .before .before .before .before in
     let s = start (f .before) in
-    let room : length (f .forward .last .1 .1 .0) ≡ mostList = lengths-kept (ran f) .1 ∙ length-replicate mostList (pos 0) in
+    let room : length (f .forward .last .1 .1 .0) ≡ mostList = forward-leaves (ran f) .length-kept ∙ length-replicate mostList (pos 0) in
     (s .pre .0, omega (arith, made f .count), omega (arith, made f .count), s .pre .1)
 
 returns : tie.Need-returns

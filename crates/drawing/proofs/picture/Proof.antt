@@ -21,7 +21,7 @@ reader c = c .before .before .before .before
 
 -- the reader is lent room for 4,096 points
 read : (c : tie.After-read-points) → Read (input (c .before)) (c .read-points .result) (c .read-points .last .1 .0)
-read c = points-read (c .read-points .ensures) (omega (arith, length-replicate mostWork (pos 0)))
+read c = points-read _ (c .read-points .ensures) (omega (arith, length-replicate mostWork (pos 0)))
 
 draw-requires : tie.Need-draw-requires
 draw-requires c κs =

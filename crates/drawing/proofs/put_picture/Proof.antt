@@ -6,7 +6,7 @@ use lib.ListN.{length, take, length-take}
 use borrow.Author.Needs.{needs}
 use Rattle.plane.specs.Words.{pointsOf, rectsOf}
 use Rattle.plane.proofs.Arrays.{length-points}
-use Rattle.rule.specs.Answers.{sumsTold}
+use Rattle.rule.specs.ForwardCall.{sumsTold}
 use Rattle.numerals.proofs.Writing.{wrote, wrote-then}
 use Rattle.drawing.specs.declared.View.{View}
 use Rattle.drawing.specs.Picture.{listPart, pointPart, markPart, sayPart, svgOf}

@@ -5,7 +5,7 @@ use native.Mathlib.Omega.{arith}
 use mathlib.Core.Path.{_≡_, refl}
 use mathlib.Core.List.{List, [], _∷_}
 use lib.ListN.{length, set}
-use lib.Seq.{set-split}
+use lib.Seq.{drop-drop, set-split}
 use borrow.Author.Needs.{needs}
 use borrow.Author.Tests.{eq-eqb, ne-eqb}
 use Rattle.numerals.specs.Inner.{Wrote}
@@ -17,7 +17,7 @@ use Rattle.drawing.proofs.put_piece.Tie as tie
 
 -- one byte stored is written
 wrote-one : (out : List ℕ) (at b : ℕ) → at < length out → Wrote out at (b ∷ []) (at + 1) (set out at b)
-wrote-one out at b h = record { place = refl; output = rw add-one (set-split out at b h) }
+wrote-one out at b h = record { place = refl; output = rw (drop-drop 1 at out, add-one) (set-split out at b h) }
 
 -- a byte that is no `@` stays
 stays : (c : tie.Else1) → piece (c .before .before .args .b) (c .before .before .args .n) ≡ c .before .before .args .b ∷ []

@@ -3,7 +3,7 @@ use Prim.Native.Nat.{_≤_}
 use native.Mathlib.Omega.{arith}
 use lib.ListN.{length}
 use borrow.Author.Needs.{needs}
-use Rattle.rule.specs.Answers.{sumsTold}
+use Rattle.rule.specs.ForwardCall.{sumsTold}
 use Rattle.drawing.specs.Picture.{listSays}
 use Rattle.drawing.proofs.Parts.{sums-length}
 use Rattle.drawing.proofs.put_sums.Statement.{statement}

@@ -5,9 +5,7 @@ use mathlib.Core.Path.{_≡_, ap, sym, _∙_}
 use borrow.Author.Needs.{needs}
 use Rattle.plane.specs.Words.{rectsOf, rectAt}
 use Rattle.plane.proofs.Arrays.{length-rects}
-use Rattle.rule.specs.Checks.{placeGiven}
-use Rattle.rule.proofs.Verdicts.{NoneBelow, none-below-next}
-use Rattle.rule.proofs.Search.{found, none-found}
+use Rattle.entry.proofs.Search.{NoneBelow, none-below-next, found, none-found}
 use Rattle.outline.specs.Inner.{rectOffends}
 use Rattle.outline.proofs.first_bad.Statement.{statement}
 use Rattle.outline.proofs.first_bad.Tie as tie
@@ -30,7 +28,6 @@ tested : (c : tie.After-is-bad Inv-loop μ-loop) → let l = loop-at c in let r 
 tested c = sym (c .is-bad .ensures ∙ ap (rectOffends (loop-at c .before .args .number)) (c .before .rect-at .ensures))
 
 returns : tie.Need-returns Inv-loop μ-loop
-unfolding placeGiven
 returns c =
     let l = loop-at (c .before) in
     found (length-rects (l .before .args .rects .now)) (l .loop .inv .1) (search needs) (tested (c .before) ∙ c .if1 .taken)
@@ -41,7 +38,6 @@ loop-again c =
     (search needs, none-below-next (l .loop .inv .1) (tested (c .before) ∙ c .if1 .left))
 
 returns-2 : tie.Need-returns-2 Inv-loop μ-loop
-unfolding placeGiven
 returns-2 c =
     let l = c .before in
     none-found (length-rects (l .before .args .rects .now)) (l .loop .inv .1) (search needs) (search needs)

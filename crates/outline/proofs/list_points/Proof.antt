@@ -11,12 +11,11 @@ use lib.IntN.{ℤ}
 use borrow.Author.Needs.{needs}
 use Rattle.plane.specs.declared.Point.{Point}
 use Rattle.plane.specs.declared.Rect.{Rect}
+use Rattle.plane.specs.Lists.{atStart}
 use Rattle.plane.specs.Words.{rectsOf, flatPoints}
 use Rattle.plane.proofs.Bools.{cond-case, cond-true, cond-false}
 use Rattle.plane.proofs.Arrays.{length-rects}
 use Rattle.rule.specs.Back.{backList}
-use Rattle.rule.specs.Answers.{written}
-use Rattle.rule.specs.Checks.{accepted}
 use Rattle.rule.proofs.Backward.{back-length}
 use Rattle.outline.specs.Inner.{firstKey, endOfKeys, batchOf}
 use Rattle.outline.proofs.Batches.{batch-few, batch-none, answer-all, batch-listed, batch-written}
@@ -32,7 +31,7 @@ record Listing (rs : List Rect) (keys₀ : List ℕ) (points₀ : List ℤ) (wri
   pub keys-length : length keys ≡ length keys₀
   pub points-length : length points ≡ length points₀
   pub many : listed ≡ length (batchOf firstKey start (backList rs))
-  pub wrote : points ≡ cond writes (written accepted (flatPoints (batchOf firstKey start (backList rs))) points₀) points₀
+  pub wrote : points ≡ cond writes (atStart (flatPoints (batchOf firstKey start (backList rs))) points₀) points₀
 
 abbrev Inv-loop : tie.InvT-loop
 Inv-loop rects keys₀ points₀ writes start₀ end₀ listed₀ keys points start end listed = Listing (rectsOf rects) keys₀ points₀ writes keys points start end listed
@@ -105,7 +104,7 @@ add-listed c =
     omega (arith, listed-most g, back-length (rectsOf rects), length-rects rects)
 
 -- the points of the batch are written after those before, if they are to be
-written-on : (c : tie.Joined1 Inv-loop μ-loop) → let g = gathered (c .before) in let s = loop-of g .before .before .args in (length (c .if1 .points) ≡ length (s .points .now)) × (c .if1 .points ≡ cond (s .writes) (written accepted (flatPoints (below g)) (s .points .now)) (s .points .now))
+written-on : (c : tie.Joined1 Inv-loop μ-loop) → let g = gathered (c .before) in let s = loop-of g .before .before .args in (length (c .if1 .points) ≡ length (s .points .now)) × (c .if1 .points ≡ cond (s .writes) (atStart (flatPoints (below g)) (s .points .now)) (s .points .now))
 written-on c =
     let g = gathered (c .before) in
     let l = loop-of g in

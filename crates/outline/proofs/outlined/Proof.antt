@@ -8,12 +8,11 @@ use lib.ListN.{length}
 use borrow.Author.Needs.{needs}
 use Rattle.plane.specs.Words.{rectsOf}
 use Rattle.plane.proofs.Arrays.{length-rects}
+use Rattle.entry.proofs.Entry.{refused-done, accepted-done}
 use Rattle.rule.specs.Back.{backList}
-use Rattle.rule.specs.Answers.{backwardAnswer, backwardOut}
 use Rattle.rule.proofs.Backward.{back-length}
-use Rattle.rule.proofs.Refusals.{backward-accepted, backward-lacks-room}
+use Rattle.rule.proofs.BackwardCall.{backward-accepted, backward-lacks-room}
 use Rattle.outline.specs.Inner.{mostKeys}
-use Rattle.outline.proofs.Checks.{refused-done}
 use Rattle.outline.proofs.outlined.Statement.{statement}
 use Rattle.outline.proofs.outlined.Tie as tie
 
@@ -26,7 +25,7 @@ returns c =
     let s = d .before .before .before .before in
     let needed = d .list-points .ensures .0 in
     let v = backward-lacks-room (s .args .rects .now) (length (s .args .points .now)) (d .list-points .result) .1 (rw needed (s .pre), needed, search needs) in
-    rw (d .list-points .ensures .1) (refused-done (c .no-points .ensures) v)
+    rw (d .list-points .ensures .1) (refused-done (c .refusal .ensures) v)
 
 -- where the points are to be written the array is as it was, and has room for them
 ready : (c : tie.Joined1) → let s = c .before .args in (length (c .if1 .keys) ≡ mostKeys) × (c .if1 .points ≡ s .points .now) × (length (backList (rectsOf (s .rects .now))) ≤ length (s .points .now) / 2)
@@ -44,19 +43,18 @@ list-points-requires-2 c κs =
     (j .before .pre .rects, (omega arith, λ _. rw (h .1) (omega arith)))
 
 returns-2 : tie.Need-returns-2
-unfolding backwardAnswer backwardOut
 returns-2 c =
-    let e = c .before .before in
+    let e = c .before .before .before in
     let j = e .before .before .before in
     let s = j .before in
     let h = ready j in
     let v = backward-accepted (s .args .rects .now) (length (s .args .points .now)) .1 (record { even = s .pre .even; few = s .pre .few; rects = s .pre .rects; room = h .2 }) in
-    record { answer = rw (v, e .list-points2 .ensures .0); output = rw v (rw (h .1) at (e .list-points2 .ensures .1)) }
+    accepted-done (rw (c .done .ensures, e .list-points2 .ensures .0)) (rw (h .1) at (e .list-points2 .ensures .1)) v
 
 pub outlined-spec : {M : Type 1} → statement M
 outlined-spec =
     tie.close
     (tie.spec
     (λ c. search needs) list-points-requires (λ c κs. search needs) (λ c. search needs) returns (λ c. sym (ready (c .before) .0))
-    list-points-requires-2 (λ c. let e = c .before .before in e .list-points2 .kept .1 .1 .0 ∙ ap length (ready (e .before .before .before) .1))
+    list-points-requires-2 (λ c κs. search needs) (λ c. let e = c .before .before .before in e .list-points2 .kept .1 .1 .0 ∙ ap length (ready (e .before .before .before) .1))
     returns-2)

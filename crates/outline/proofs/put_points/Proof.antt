@@ -7,12 +7,11 @@ use mathlib.Core.List.{List, [], _∷_, _++_, map-append}
 use lib.ListN.{length, getD, take, length-set, length-map}
 use lib.Seq.{take-suc, length-take-le}
 use borrow.Author.Needs.{needs}
+use Rattle.plane.specs.Lists.{atStart}
 use Rattle.plane.specs.Words.{flatPoints}
 use Rattle.plane.specs.Keys.{pointOf}
 use Rattle.plane.proofs.Bits.{back}
-use Rattle.rule.specs.Answers.{written}
-use Rattle.rule.specs.Checks.{accepted}
-use Rattle.rule.proofs.Memory.{written-point}
+use Rattle.plane.proofs.AtStart.{start-point}
 use Rattle.outline.specs.Inner.{pointsOfKeys}
 use Rattle.outline.proofs.put_points.Statement.{statement}
 use Rattle.outline.proofs.put_points.Tie as tie
@@ -26,7 +25,7 @@ next-first : (ks : List ℕ) (i : ℕ) → i < length ks → pointsOfKeys (take 
 next-first ks i h = ap pointsOfKeys (take-suc ks i 0 h) ∙ map-append pointOf (take i ks) (getD ks i 0 ∷ [])
 
 abbrev Inv-loop : tie.InvT-loop
-Inv-loop keys n points₀ i₀ points i = (i ≤ n) × (length points ≡ length points₀) × (points ≡ written accepted (flatPoints (pointsOfKeys (take i keys))) points₀)
+Inv-loop keys n points₀ i₀ points i = (i ≤ n) × (length points ≡ length points₀) × (points ≡ atStart (flatPoints (pointsOfKeys (take i keys))) points₀)
 
 abbrev μ-loop : tie.MeasureT-loop
 μ-loop keys n points₀ i₀ points i = n - i
@@ -46,7 +45,7 @@ loop-again c =
     let next : pointsOfKeys (take (i + 1) ks) ≡ pointsOfKeys (take i ks) ++ (p ∷ []) = rw (add-one, t .point-of .ensures) (next-first ks i (omega arith)) in (
       search needs,
       simp length-set (l .loop .inv .1),
-      rw (back (p .x) (omega arith), back (p .y) (omega arith), l .loop .inv .2, next) (written-point (pointsOfKeys (take i ks)) p (s .args .points .now) i (length-first ks i (omega arith)) (omega arith)),
+      rw (back (p .x) (omega arith), back (p .y) (omega arith), l .loop .inv .2, next) (start-point (pointsOfKeys (take i ks)) p (s .args .points .now) i (length-first ks i (omega arith)) (omega arith)),
     )
 
 returns : tie.Need-returns Inv-loop μ-loop

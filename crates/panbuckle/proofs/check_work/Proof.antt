@@ -4,25 +4,25 @@ use lib.Seq.{length-take-le}
 use borrow.Author.Needs.{needs}
 use borrow.Author.Tests.{lt-ltb, le-ltb, eq-eqb, ne-eqb}
 use Rattle.plane.proofs.Arrays.{points-take}
-use Rattle.rule.specs.Answers.{stepChecks}
-use Rattle.rule.specs.Checks.{rowNumber, placeGiven, verdict}
+use Rattle.entry.specs.Checks.{judged, verdict}
+use Rattle.rule.specs.StepCall.{stepChecks}
 use Rattle.panbuckle.proofs.check_work.Statement.{statement}
 use Rattle.panbuckle.proofs.check_work.Tie as tie
 
 returns : tie.Need-returns
-unfolding stepChecks verdict rowNumber placeGiven
-returns c = simp (lt-ltb _ _ (c .before .if1 .taken)) (c .refused .ensures)
+unfolding stepChecks verdict judged
+returns c = simp (lt-ltb _ _ (c .before .if1 .taken)) (c .refusal .ensures)
 
 returns-2 : tie.Need-returns-2
-unfolding stepChecks verdict rowNumber placeGiven
-returns-2 c = simp (le-ltb _ _ (c .before .before .if1 .left), lt-ltb _ _ (c .before .if2 .taken)) (c .refused2 .ensures)
+unfolding stepChecks verdict judged
+returns-2 c = simp (le-ltb _ _ (c .before .before .if1 .left), lt-ltb _ _ (c .before .if2 .taken)) (c .refusal2 .ensures)
 
 returns-3 : tie.Need-returns-3
-unfolding stepChecks verdict rowNumber placeGiven
-returns-3 c = simp (le-ltb _ _ (c .before .before .before .if1 .left), le-ltb _ _ (c .before .before .if2 .left), eq-eqb _ _ (c .before .if3 .taken)) (c .refused3 .ensures)
+unfolding stepChecks verdict judged
+returns-3 c = simp (le-ltb _ _ (c .before .before .before .if1 .left), le-ltb _ _ (c .before .before .if2 .left), eq-eqb _ _ (c .before .if3 .taken)) (c .refusal3 .ensures)
 
 returns-4 : tie.Need-returns-4
-unfolding stepChecks verdict rowNumber placeGiven
+unfolding stepChecks verdict judged
 returns-4 c =
     let e = c .before .before in
     let r = e .before .before .before .args in

@@ -4,11 +4,10 @@ use native.Mathlib.Omega.{arith}
 use mathlib.Core.Path.{_≡_, sym, _∙_}
 use borrow.Author.Needs.{needs}
 use Rattle.plane.specs.Words.{same, pointAt}
-use Rattle.rule.proofs.Verdicts.{NoneBelow, none-below-next}
+use Rattle.entry.proofs.Search.{NoneBelow, none-below-next, found, none-found}
 use Rattle.rule.proofs.Toggle.{place-first}
 use Rattle.panbuckle.specs.Inner.{held}
 use Rattle.panbuckle.proofs.Scan.{held-length, held-at}
-use Rattle.rule.proofs.Search.{found, none-found}
 use Rattle.panbuckle.proofs.place_of.Statement.{statement}
 use Rattle.panbuckle.proofs.place_of.Tie as tie
 

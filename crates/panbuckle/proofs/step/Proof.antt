@@ -1,27 +1,28 @@
--- `panbuckle::step` meets its contract. A clear screen means accepted points, whose step is `take_rectangle`'s; a refusal leaves all as it was.
+-- `panbuckle::step` meets its contract. Past the checks the points are accepted, and their step is `take_rectangle`'s; a refusal leaves all as it
+-- was.
 use borrow.Author.Needs.{needs}
-use mathlib.Core.Path.{sym, _∙_}
-use Rattle.rule.specs.Answers.{stepAnswer, stepWork, stepChecks}
-use Rattle.rule.specs.Checks.{verdict}
-use Rattle.rule.proofs.Refusals.{step-accepted}
-use Rattle.checks.proofs.Screens.{screen-clear, screen-refused}
+use lib.ListN.{length}
+use Rattle.entry.specs.Checks.{verdict}
+use Rattle.entry.proofs.Entry.{counted-accepted, counted-refused}
+use Rattle.rule.specs.StepCall.{stepAnswer, stepWork, stepChecks}
+use Rattle.rule.proofs.StepCall.{step-numbered, step-accepted}
+use Rattle.panbuckle.specs.Inner.{held}
 use Rattle.panbuckle.proofs.step.Statement.{statement}
 use Rattle.panbuckle.proofs.step.Tie as tie
+
+returns : tie.Need-returns
+unfolding stepAnswer stepWork
+returns c =
+    let w = c .before .before in
+    let s = w .before .before .args in
+    let v = counted-refused (verdict (stepChecks (s .work .now) (s .count))) (length (held (s .count) (s .work .now))) (w .check-work .ensures) (c .if1 .taken) .0 in
+    record { answer = rw v; working = rw v }
 
 take-rectangle-requires : tie.Need-take-rectangle-requires
 take-rectangle-requires c κs =
     let w = c .before .before .before in
-    let s = w .before .before in
-    let v = screen-clear (verdict (stepChecks (s .args .work .now) (s .args .count))) (sym (w .check-work .ensures) ∙ c .before .enum-told .given .1) in
-    step-accepted (s .args .work .now) (s .args .count) .0 v
-
-returns-2 : tie.Need-returns-2
-unfolding stepAnswer stepWork
-returns-2 c =
-    let w = c .before .before .before in
-    let s = w .before .before in
-    let v = screen-refused (verdict (stepChecks (s .args .work .now) (s .args .count))) (sym (w .check-work .ensures) ∙ c .before .answer .given .1) in
-    record { answer = rw v; working = rw v }
+    let s = w .before .before .args in
+    step-accepted (s .work .now) (s .count) .0 (counted-accepted (stepChecks (s .work .now) (s .count)) (step-numbered (s .work .now) (s .count)) (length (held (s .count) (s .work .now))) (w .check-work .ensures) (c .before .if1 .left))
 
 pub step-spec : {M : Type 1} → statement M
-step-spec = tie.close (tie.spec (λ c κs. search needs) (λ c. search needs) take-rectangle-requires (λ c. search needs) (λ c. search needs) (λ c. search needs) (λ c. search needs) returns-2)
+step-spec = tie.close (tie.spec (λ c κs. search needs) (λ c. search needs) returns take-rectangle-requires (λ c. search needs) (λ c. search needs))

@@ -4,10 +4,11 @@ use native.Mathlib.Omega.{arith}
 use mathlib.Core.Path.{_≡_, sym, _∙_}
 use lib.ListN.{length}
 use borrow.Author.Needs.{needs}
-use Rattle.rule.specs.Checks.{by-item}
-use Rattle.rule.proofs.Verdicts.{NoneBelow, none-below-next, place-given, place-clear}
+use Rattle.entry.specs.Checks.{by-item, this}
+use Rattle.entry.proofs.Search.{NoneBelow, none-below-next}
+use Rattle.entry.proofs.Verdicts.{refused-exactly, accepted-clear}
+use Rattle.reading.specs.Inner.{linesChecks}
 use Rattle.reading.specs.Lines.{linesOf, lineAt, isBad}
-use Rattle.reading.specs.Inner.{linesCheck}
 use Rattle.reading.proofs.Lines.{Reached, Passed, reached-start, reached-bad, reached-next, reached-end}
 use Rattle.reading.proofs.check_lines.Statement.{statement}
 use Rattle.reading.proofs.check_lines.Tie as tie
@@ -39,18 +40,18 @@ loop-again c =
 
 returns : tie.Need-returns Inv-loop μ-loop
 returns c =
-    let r = c .before .before in
+    let r = c .before .before .before in
     let l = r .before .before in
     let t = l .before .before .args .text .now in
-    let b = reached-bad (l .loop .inv .0) (r .before .loop-test .taken) (sym (r .read-line .ensures) ∙ c .enum-told .given .1) in
-    rw (place-given (linesCheck t) (l .loop .count) .1 (by-item (l .loop .count) (b .0) (b .1) (l .loop .inv .1)))
+    let b = reached-bad (l .loop .inv .0) (r .before .loop-test .taken) (sym (r .read-line .ensures) ∙ c .before .enum-told .given .1) in
+    rw (refused-exactly (linesChecks t) 11 (l .loop .count) .1 (this (by-item (l .loop .count) (b .0) (b .1) (l .loop .inv .1)))) (c .refusal .ensures)
 
 returns-2 : tie.Need-returns-2 Inv-loop μ-loop
 returns-2 c =
-    let l = c .before in
+    let l = c .before .before in
     let t = l .before .before .args .text .now in
     let e : l .loop .count ≡ length (linesOf t) = reached-end (l .loop .inv .0) (omega arith) in
-    rw (place-clear (linesCheck t) .1 (rw e at (l .loop .inv .1)), e)
+    rw (accepted-clear (linesChecks t) .1 (rw e at (l .loop .inv .1), tt), ← e) (c .done .ensures)
 
 pub check-lines-spec : {M : Type 1} → statement M
-check-lines-spec = tie.close (tie.spec Inv-loop μ-loop loop-holds (λ c κs. search needs) (λ c. search needs) (λ c. search needs) loop-less loop-again (λ c. search needs) returns returns-2)
+check-lines-spec = tie.close (tie.spec Inv-loop μ-loop loop-holds (λ c κs. search needs) (λ c. search needs) (λ c. search needs) loop-less loop-again (λ c. search needs) (λ c κs. search needs) returns (λ c κs. search needs) returns-2)

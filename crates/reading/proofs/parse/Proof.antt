@@ -13,7 +13,7 @@ use Rattle.numerals.specs.declared.Numeral.{Numeral}
 use Rattle.numerals.specs.Numerals.{numberOf, numeral}
 use Rattle.reading.specs.declared.Parsed.{Parsed}
 use Rattle.reading.specs.Lines.{space, beforeFirst, afterFirst, pointFrom}
-use Rattle.reading.specs.Inner.{numberIn, parsed}
+use Rattle.reading.specs.Inner.{readAs, parsed}
 use Rattle.reading.proofs.Lines.{take-before, drop-before, after-none, part-rest}
 use Rattle.reading.proofs.parse.Statement.{statement}
 use Rattle.reading.proofs.parse.Tie as tie
@@ -23,16 +23,16 @@ no-second none = refl
 no-second (some x) = refl
 
 -- the number that the code answers
-number-in : (o : Option ℤ) → numberIn (numeral o) ≡ o
-number-in none = refl
-number-in (some z) = refl
+read-as : (o : Option ℤ) → readAs (numeral o) ≡ o
+read-as none = refl
+read-as (some z) = refl
 
 -- what is made of the numbers before and after the gap
 joined :
     (t : List ℕ) (gap : ℕ) {x y : Numeral} {r : Parsed} → gap ≡ length (beforeFirst space t) →
     x ≡ numeral (numberOf (take gap t)) → y ≡ numeral (numberOf (take (length t - (gap + 1)) (drop (gap + 1) t))) →
-    r ≡ parsed (pointFrom (numberIn x) (numberIn y)) → r ≡ parsed (pointFrom (numberOf (beforeFirst space t)) (numberOf (afterFirst space t)))
-joined t gap e f g h = rw (h, f, g, number-in (numberOf (take gap t)), number-in, part-rest, e, take-before, add-one, drop-before)
+    r ≡ parsed (pointFrom (readAs x) (readAs y)) → r ≡ parsed (pointFrom (numberOf (beforeFirst space t)) (numberOf (afterFirst space t)))
+joined t gap e f g h = rw (h, f, g, read-as (numberOf (take gap t)), read-as, part-rest, e, take-before, add-one, drop-before)
 
 returns : tie.Need-returns
 unfolding numberOf

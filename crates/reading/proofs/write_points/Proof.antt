@@ -7,15 +7,14 @@ use lib.ListN.{length, take, length-append, length-set}
 use lib.Seq.{take-length}
 use borrow.Author.Needs.{needs}
 use Rattle.plane.specs.declared.Point.{Point}
+use Rattle.plane.specs.Lists.{atStart}
 use Rattle.plane.specs.Words.{flatPoints}
 use Rattle.plane.proofs.Bits.{back}
 use Rattle.plane.proofs.Bools.{clash}
-use Rattle.rule.specs.Answers.{written}
-use Rattle.rule.specs.Checks.{accepted}
-use Rattle.rule.proofs.Memory.{written-point}
-use Rattle.rule.proofs.Verdicts.{place-clear}
+use Rattle.plane.proofs.AtStart.{start-point}
+use Rattle.entry.proofs.Verdicts.{accepted-clear}
+use Rattle.reading.specs.Inner.{linesChecks}
 use Rattle.reading.specs.Lines.{linesOf, pointsIn}
-use Rattle.reading.specs.Inner.{linesCheck}
 use Rattle.reading.proofs.Lines.{Reached, Passed, reached-start, reached-bad, reached-next, reached-end, points-next}
 use Rattle.reading.proofs.write_points.Statement.{statement}
 use Rattle.reading.proofs.write_points.Tie as tie
@@ -23,7 +22,7 @@ use Rattle.reading.proofs.write_points.Tie as tie
 abbrev Inv-loop : tie.InvT-loop
 Inv-loop text points₀ at₀ i₀ points at i =
     let ps = pointsIn (take i (linesOf text)) in
-    Reached text at i × (length ps ≡ i) × (length points ≡ length points₀) × (points ≡ written accepted (flatPoints ps) points₀)
+    Reached text at i × (length ps ≡ i) × (length points ≡ length points₀) × (points ≡ atStart (flatPoints ps) points₀)
 
 abbrev μ-loop : tie.MeasureT-loop
 μ-loop text points₀ at₀ i₀ points at i = length text - at
@@ -51,7 +50,7 @@ unread c =
     let l = r .before .before in
     let s = l .before .before in
     let b = reached-bad (l .loop .inv .0) (r .before .loop-test .taken) (sym (r .read-line .ensures) ∙ c .enum-told .given .1) in
-    clash (b .1) (place-clear (linesCheck (s .args .text .now)) .0 (s .pre .0) (l .loop .i) (b .0))
+    clash (b .1) (accepted-clear (linesChecks (s .args .text .now)) .0 (s .pre .0) .0 (l .loop .i) (b .0))
 
 loop-again : tie.Need-loop-again Inv-loop μ-loop
 loop-again c =
@@ -64,7 +63,7 @@ loop-again c =
       g .reached,
       rw e (omega (arith, length-append ps (n .0 ∷ []))),
       simp length-set (l .loop .inv .2),
-      rw (e, back (n .0 .x) (omega arith), back (n .0 .y) (omega arith), l .loop .inv .3) (written-point ps (n .0) (s .args .points .now) (l .loop .i) (l .loop .inv .1) (omega (arith, room c))),
+      rw (e, back (n .0 .x) (omega arith), back (n .0 .y) (omega arith), l .loop .inv .3) (start-point ps (n .0) (s .args .points .now) (l .loop .i) (l .loop .inv .1) (omega (arith, room c))),
     )
 
 returns-2 : tie.Need-returns-2 Inv-loop μ-loop

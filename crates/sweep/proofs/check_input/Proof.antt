@@ -1,7 +1,7 @@
 -- `sweep::check_input` meets its contract: each check refuses, or passes to the next.
 use Prim.Native.Nat.{ℕ, _/_}
 use native.Mathlib.Omega.{arith}
-use mathlib.Core.Path.{_≡_, sym, ap, _∙_}
+use mathlib.Core.Path.{_≡_, sym}
 use mathlib.Core.Bool.{false}
 use mathlib.Core.List.{List}
 use lib.ListN.{length}
@@ -10,12 +10,12 @@ use borrow.Author.Needs.{needs}
 use borrow.Author.Tests.{lt-ltb, le-ltb, eq-eqb, ne-eqb}
 use Rattle.plane.specs.Words.{pointsOf}
 use Rattle.plane.proofs.Arrays.{length-points}
-use Rattle.rule.proofs.Verdicts.{verdict-whole}
 use Rattle.ordering.proofs.Orders.{order-found}
+use Rattle.entry.specs.Checks.{refused, verdict}
+use Rattle.entry.proofs.Verdicts.{verdict-whole}
+use Rattle.rule.specs.ForwardCall.{inputChecks}
 use Rattle.rule.specs.Rows.{pointChecks}
-use Rattle.rule.specs.Checks.{refused, verdict}
-use Rattle.checks.specs.Screens.{screenOf}
-use Rattle.sweep.specs.Inner.{inputChecks, Ordered}
+use Rattle.sweep.specs.Inner.{Ordered}
 use Rattle.sweep.proofs.check_input.Statement.{statement}
 use Rattle.sweep.proofs.check_input.Tie as tie
 
@@ -28,7 +28,7 @@ unfolding inputChecks
 returns c =
     let s = c .before .before .args in
     let v : verdict (inputChecks (s .points .now) (s .work)) ≡ refused 1 0 = simp (verdict-whole, ne-eqb _ _ (c .before .if1 .taken)) in
-    (c .refused .ensures ∙ sym (ap screenOf v), none-asked (s .points .now) (s .work) _ v)
+    (rw v (c .refusal .ensures), none-asked (s .points .now) (s .work) _ v)
 
 returns-2 : tie.Need-returns-2
 unfolding inputChecks
@@ -36,7 +36,7 @@ returns-2 c =
     let l = c .before in
     let s = l .before .before .args in
     let v : verdict (inputChecks (s .points .now) (s .work)) ≡ refused 2 0 = simp (verdict-whole, eq-eqb _ _ (l .before .if1 .left), lt-ltb _ _ (l .if2 .taken)) in
-    (c .refused2 .ensures ∙ sym (ap screenOf v), none-asked (s .points .now) (s .work) _ v)
+    (rw v (c .refusal2 .ensures), none-asked (s .points .now) (s .work) _ v)
 
 returns-3 : tie.Need-returns-3
 unfolding inputChecks
@@ -44,7 +44,7 @@ returns-3 c =
     let l = c .before in
     let s = l .before .before .before .args in
     let v : verdict (inputChecks (s .points .now) (s .work)) ≡ refused 3 0 = simp (verdict-whole, eq-eqb _ _ (l .before .before .if1 .left), le-ltb _ _ (l .before .if2 .left), lt-ltb _ _ (l .if3 .taken)) in
-    (c .refused3 .ensures ∙ sym (ap screenOf v), none-asked (s .points .now) (s .work) _ v)
+    (rw v (c .refusal3 .ensures), none-asked (s .points .now) (s .work) _ v)
 
 returns-4 : tie.Need-returns-4
 unfolding inputChecks
@@ -53,7 +53,7 @@ returns-4 c =
     let s = l .before .before .before .args in
     let a = s .points .now in
     let v : verdict (inputChecks a (s .work)) ≡ verdict (pointChecks (pointsOf a)) = simp (verdict-whole, eq-eqb _ _ (l .before .before .if1 .left), le-ltb _ _ (l .before .if2 .left), le-ltb _ _ (l .if3 .left)) in
-    (c .order-points .ensures .0 ∙ sym (ap screenOf v), record { in-order = λ _. rw (c .order-points .ensures .1) (order-found false (pointsOf a) (length a / 2) _ (sym (length-points a)) (omega arith)) })
+    (rw v (c .order-points .ensures .0), record { in-order = λ _. rw (c .order-points .ensures .1) (order-found false (pointsOf a) (length a / 2) _ (sym (length-points a)) (omega arith)) })
 
 pub check-input-spec : {M : Type 1} → statement M
 check-input-spec = tie.close (tie.spec (λ c κs. search needs) returns (λ c κs. search needs) returns-2 (λ c. search needs) (λ c κs. search needs) returns-3 (λ c κs. search needs) returns-4)

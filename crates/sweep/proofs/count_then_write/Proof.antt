@@ -10,8 +10,8 @@ use borrow.Author.Needs.{needs}
 use Rattle.plane.specs.declared.Rect.{Rect}
 use Rattle.plane.specs.Words.{pointsOf, rectSize, pointAt}
 use Rattle.plane.proofs.Bools.{clash}
-use Rattle.rule.specs.Answers.{forwardAnswer, forwardWork, forwardOut, forwardList}
-use Rattle.rule.proofs.Refusals.{accepted-with-room, forward-accepted, forward-lacks-room}
+use Rattle.rule.specs.ForwardCall.{forwardAnswer, forwardWork, forwardOut, forwardList}
+use Rattle.rule.proofs.ForwardCall.{accepted-with-room, forward-accepted, forward-lacks-room}
 use Rattle.sweep.specs.Inner.{KeptPast, sweptPoints}
 use Rattle.sweep.proofs.Past.{kept-on, kept-drained}
 use Rattle.sweep.proofs.count_then_write.Statement.{statement}

@@ -1,13 +1,13 @@
 -- `sweep::zero_start` meets its contract. The invariant: the first i numbers are 0, and the others as they were.
 use Prim.Native.Nat.{ℕ, _+_, _-_, _<_, _≤_}
 use native.Mathlib.Omega.{arith}
-use native.Mathlib.Numerals.{add-one}
-use mathlib.Core.Path.{_≡_, sym, ap, _∙_}
-use mathlib.Core.List.{List, _∷_, _++_}
-use lib.ListN.{length, drop, set, replicate, length-replicate, replicate-append-replicate}
-use lib.Seq.{drop-cons, set-at, append-snoc}
+use mathlib.Core.Path.{_≡_, ap, subst, _∙_}
+use mathlib.Core.List.{List, [], _∷_, _++_}
+use lib.ListN.{length, set, replicate, length-replicate, replicate-append-replicate}
 use lib.IntN.{ℤ, pos}
 use borrow.Author.Needs.{needs}
+use Rattle.plane.specs.Lists.{atStart}
+use Rattle.plane.proofs.AtStart.{start-more}
 use Rattle.sweep.specs.Inner.{zeroed}
 use Rattle.sweep.proofs.zero_start.Statement.{statement}
 use Rattle.sweep.proofs.zero_start.Tie as tie
@@ -22,8 +22,8 @@ abbrev μ-loop : tie.MeasureT-loop
 zeroed-next : (a : List ℤ) (i : ℕ) → i < length a → set (zeroed i a) i (pos 0) ≡ zeroed (i + 1) a
 zeroed-next a i h =
     let zeros : List ℤ = replicate i (pos 0) in
-    let next : set (zeroed i a) i (pos 0) ≡ zeros ++ (pos 0 ∷ drop (i + 1) a) = rw (drop-cons a i (pos 0) h, add-one i) (set-at zeros _ _ (pos 0) i (length-replicate i (pos 0))) in
-    next ∙ sym (append-snoc zeros (pos 0) (drop (i + 1) a)) ∙ ap (λ (l : List ℤ). l ++ drop (i + 1) a) (replicate-append-replicate i 1 (pos 0))
+    let e : length zeros ≡ i = length-replicate i (pos 0) in
+    subst (λ (j : ℕ). set (zeroed i a) j (pos 0) ≡ atStart (zeros ++ (pos 0 ∷ [])) a) e (start-more zeros (pos 0 ∷ []) a (omega arith)) ∙ ap (λ (l : List ℤ). atStart l a) (replicate-append-replicate i 1 (pos 0))
 
 loop-again : tie.Need-loop-again Inv-loop μ-loop
 loop-again c =

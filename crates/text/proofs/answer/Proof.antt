@@ -7,7 +7,7 @@ use lib.ListN.{replicate, length-replicate}
 use lib.Seq.{length-take-le}
 use lib.IntN.{pos}
 use borrow.Author.Needs.{needs}
-use Rattle.rule.specs.Checks.{verdict, refused}
+use Rattle.entry.specs.Checks.{verdict, refused}
 use Rattle.reading.specs.Reading.{textChecks, ReadDone}
 use Rattle.reading.proofs.Kept.{AllRead, read-done, read-refused}
 use Rattle.text.proofs.Listing.{program-listed, program-told}
@@ -27,11 +27,11 @@ read c = c .read-points .ensures
 
 -- what is known of a text that it accepts
 all-read : (c : tie.Then1) → let r = reader (c .before) in AllRead (input r) (r .read-points .result) (r .read-points .last .1 .0)
-all-read c = read-done (read (reader (c .before))) (c .if1 .taken)
+all-read c = read-done (input (reader (c .before))) (read (reader (c .before))) (c .if1 .taken)
 
 -- and of one that it refuses
 refuses : (c : tie.Else1) → let r = reader (c .before) in verdict (textChecks (input r)) ≡ refused (r .read-points .result .answer) (r .read-points .result .place)
-refuses c = read-refused (read (reader (c .before))) (omega (arith, length-replicate 8192 (pos 0))) (c .if1 .left)
+refuses c = read-refused (input (reader (c .before))) (read (reader (c .before))) (omega (arith, length-replicate 8192 (pos 0))) (c .if1 .left)
 
 returns : tie.Need-returns
 returns c =

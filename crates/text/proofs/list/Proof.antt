@@ -5,10 +5,10 @@ use mathlib.Core.List.{List}
 use lib.ListN.{length, replicate, length-replicate}
 use lib.IntN.{ℤ, pos}
 use borrow.Author.Needs.{needs}
-use Rattle.rule.specs.Checks.{accepted, refused}
-use Rattle.rule.specs.Answers.{ForwardAccepted, ForwardDone, forwardList, forwardSums}
-use Rattle.rule.proofs.Refusals.{forward-accepted}
-use Rattle.panbuckle.proofs.Kept.{lengths-kept, done-told}
+use Rattle.entry.specs.Checks.{accepted, refused}
+use Rattle.rule.specs.ForwardCall.{ForwardAccepted, ForwardDone, forwardList, forwardSums}
+use Rattle.rule.proofs.ForwardCall.{forward-accepted, forward-leaves}
+use Rattle.panbuckle.proofs.Kept.{done-told}
 use Rattle.text.specs.Program.{mostWork, mostList, listLines}
 use Rattle.text.specs.Inner.{says, listed}
 use Rattle.text.proofs.Longest.{list-fits}
@@ -43,7 +43,7 @@ print-list-requires c κs =
     let a = points f in
     let ok : ForwardAccepted a mostWork mostList = forward-accepted a mostWork mostList .0 (accepts t) in
     let count : f .forward .result .count ≡ forwardSums a .count = ap (λ s. s .count) (done-told (ran f) (t .if1 .taken)) in
-    let room : length (f .forward .last .1 .1 .0) ≡ mostList = lengths-kept (ran f) .1 ∙ length-replicate mostList (pos 0) in
+    let room : length (f .forward .last .1 .1 .0) ≡ mostList = forward-leaves (ran f) .length-kept ∙ length-replicate mostList (pos 0) in
     (omega (arith, ok .room), rw (lines t) (list-fits a mostWork ok))
 
 returns : tie.Need-returns

@@ -5,10 +5,10 @@ use mathlib.Core.List.{List, _++_}
 use lib.ListN.{length, take}
 use borrow.Author.Needs.{needs}
 use Rattle.plane.specs.Words.{rectsOf}
-use Rattle.rule.specs.Answers.{sumsTold}
+use Rattle.rule.specs.ForwardCall.{sumsTold}
 use Rattle.numerals.specs.Inner.{Wrote}
-use Rattle.text.specs.Program.{sumsLine, rectLines}
 use Rattle.numerals.proofs.Writing.{wrote-front, wrote-within, wrote-many, wrote-both, room-first, room-then}
+use Rattle.text.specs.Program.{sumsLine, rectLines}
 use Rattle.text.proofs.print_through.Statement.{statement}
 use Rattle.text.proofs.print_through.Tie as tie
 

@@ -5,10 +5,10 @@ use mathlib.Core.Path.{ap}
 use mathlib.Core.List.{List, _++_}
 use lib.ListN.{length}
 use borrow.Author.Needs.{needs}
-use Rattle.rule.specs.Answers.{sumsTold}
+use Rattle.rule.specs.ForwardCall.{sumsTold}
 use Rattle.numerals.specs.Bytes.{ascii}
-use Rattle.text.specs.Inner.{worded}
 use Rattle.numerals.proofs.Writing.{wrote-both, put-third, room-first, room-then}
+use Rattle.text.specs.Inner.{worded}
 use Rattle.text.proofs.Lines.{sums-pieces}
 use Rattle.text.proofs.put_sums.Statement.{statement}
 use Rattle.text.proofs.put_sums.Tie as tie

@@ -1,0 +1,4 @@
+pub mod Search
+pub mod Verdicts
+pub mod Entry
+pub mod Examples

@@ -1,5 +1,5 @@
 .DEFAULT_GOAL := help
-.PHONY: help test archive bench mutants edits
+.PHONY: help test archive bench mutants edits refusals
 
 help:
 	@echo 'make help      print the targets'
@@ -7,6 +7,7 @@ help:
 	@echo 'make archive   prove the C face and write target/staticlib/libpanbuckle_c.a'
 	@echo 'make bench     time the library beside Boost.Polygon and std::sort, some minutes; no part of the gate'
 	@echo 'make edits     try the edits of tests/edits/ that have no fresh record, of all crates or of those named after it: half a minute each'
+	@echo 'make refusals  write the numbers of the refusals into include/panbuckle.h, and say where else they are missing'
 	@echo 'make mutants   have the prover check small edits of the code; it takes an hour or so, and is no part of the gate'
 
 test:
@@ -20,6 +21,9 @@ bench:
 
 mutants:
 	@tests/mutants
+
+refusals:
+	@python3 tests/refusals.py --write
 
 # The words after `edits` are its crates, and do nothing as goals.
 ifeq ($(firstword $(MAKECMDGOALS)),edits)

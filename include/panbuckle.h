@@ -10,7 +10,8 @@
  * that is 0) or as the brackets say (it is never NULL); and no array that is written overlaps another. If one does, the outcome is undefined.
  *
  * A point is two numbers, x and y, each from -1000000000 to 1000000000. A rectangle is four: X and Y of the lower left corner, W and H.
- * Points, rectangles and places are counted from 0; lengths are counted in numbers, not in points, rectangles or bytes. */
+ * A row is all points with one y, a column all points with one x. Points, rectangles and places are counted from 0; lengths are counted in
+ * numbers, not in points, rectangles or bytes. */
 #ifndef PANBUCKLE_H
 #define PANBUCKLE_H
 
@@ -57,20 +58,22 @@ extern "C" {
 uint32_t panbuckle_version_1(void);
 PANBUCKLE_KEPT static uint32_t (*const panbuckle_linked)(void) = panbuckle_version_1;
 
-/* The answers. On any answer but PANBUCKLE_DONE nothing is written to the list or to the points, and the place says where:
- * the first point or rectangle at fault; with PANBUCKLE_ROOM how many rectangles or points there would be; otherwise 0. */
+/* The answers. Each is given exactly when its words hold, and those of no earlier check of the function do. With PANBUCKLE_DONE the list,
+ * the points or the rectangle is written. On any other answer nothing is written to them, and the place says where: the first point or
+ * rectangle at fault; with PANBUCKLE_ROOM how many rectangles or points there would be; otherwise 0. */
 enum {
-    PANBUCKLE_DONE = 0,     /* the list, the points or the rectangle is written */
-    PANBUCKLE_LENGTH = 1,   /* the length is not a multiple of 2 (points) or 4 (rectangles) */
-    PANBUCKLE_MANY = 2,     /* more than PANBUCKLE_MOST_POINTS or PANBUCKLE_MOST_RECTS */
-    PANBUCKLE_WORK = 3,     /* the working array is shorter than two numbers for each point */
-    PANBUCKLE_RANGE = 4,    /* a coordinate, or a rectangle's far side, is out of range */
-    PANBUCKLE_REPEATED = 5, /* a point is equal to an earlier one */
-    PANBUCKLE_ROW = 6,      /* a point is on a row (one y) with an odd number of points */
-    PANBUCKLE_COLUMN = 7,   /* a point is in a column (one x) with an odd number of points */
-    PANBUCKLE_ROOM = 8,     /* the result has no room in the array that is lent for it */
-    PANBUCKLE_FLAT = 9,     /* a rectangle's W or H is below 1 */
-    PANBUCKLE_DRAINED = 10  /* a step was asked with no points left */
+    PANBUCKLE_DONE = 0,     /* none below */
+    PANBUCKLE_LENGTH = 1,   /* array length not a multiple of 2 (points), of 4 (rectangles read backward) */
+    PANBUCKLE_MANY = 2,     /* over 4,096 points forward or in a step, over 16,384 rectangles backward, program input too long */
+    PANBUCKLE_WORK = 3,     /* working array shorter than two numbers per point */
+    PANBUCKLE_RANGE = 4,    /* a coordinate, or a rectangle's far side, out of range (-1,000,000,000 to 1,000,000,000) */
+    PANBUCKLE_REPEATED = 5, /* a point equal to an earlier one */
+    PANBUCKLE_ROW = 6,      /* a row with an odd count */
+    PANBUCKLE_COLUMN = 7,   /* a column with an odd count */
+    PANBUCKLE_ROOM = 8,     /* the result needs more room */
+    PANBUCKLE_FLAT = 9,     /* W or H below 1 */
+    PANBUCKLE_DRAINED = 10, /* a step asked with no points left */
+    PANBUCKLE_TEXT = 11     /* the program's input has a bad line */
 };
 
 enum {

@@ -6,6 +6,7 @@ relative to the root of the repository.
 
 import re
 from dataclasses import dataclass
+from itertools import takewhile
 
 HTML_COMMENT = re.compile(r"<!--.*?-->", re.DOTALL)
 FENCE = re.compile(r" {0,3}(```+|~~~+)")
@@ -64,6 +65,16 @@ def table_cells(line):
 def is_table_row(line):
     """Whether the line is a row of a table."""
     return line.lstrip().startswith("|")
+
+
+def table_rows(markdown, header):
+    """The cells of each row of the first table that has this header, with the row's line number; None where there is no such table."""
+    lines = list(shown_lines(markdown))
+    headers = [at for at, (_, line) in enumerate(lines) if table_cells(line) == header]
+    if not headers:
+        return None
+    after_separator = lines[headers[0] + 2 :]
+    return [(number, table_cells(line)) for number, line in takewhile(lambda numbered: is_table_row(numbered[1]), after_separator)]
 
 
 def parse_line(number, text):

@@ -21,13 +21,13 @@ import posixpath
 import re
 import sys
 from dataclasses import dataclass, field
-from itertools import dropwhile, takewhile
+from itertools import dropwhile
 from pathlib import Path
 
 from counting import report
 from declared import declares, public_functions
 from document01 import check_document, document_beside
-from pages import Line, citations_of, cited_names, is_table_row, paragraphs_of, parse_page, quotes_of, shown_lines, table_cells
+from pages import Line, citations_of, cited_names, paragraphs_of, parse_page, quotes_of, table_cells, table_rows
 
 PROMISES = "docs/PROMISES.md"
 README = "README.md"
@@ -49,10 +49,11 @@ GOOD_OPEN_MARK = re.compile(r"open \(base ([2-6K])\)")
 
 @dataclass(frozen=True)
 class Refusal:
-    """A row of the table of refusals."""
+    """A row of the table of refusals, but for the place."""
 
     number: str
     name: str
+    given: str
 
 
 @dataclass
@@ -174,17 +175,14 @@ def check_edits(root, lines, tally):
 
 def parse_refusals(readme, tally):
     """The rows of the table of refusals; what is wrong with the table goes to the tally."""
-    lines = list(shown_lines(readme))
-    headers = [at for at, (_, line) in enumerate(lines) if table_cells(line) == REFUSALS_HEADER]
-    if not headers:
+    rows = table_rows(readme, REFUSALS_HEADER)
+    if rows is None:
         tally.fail(f"{README}: no table with the header | {' | '.join(REFUSALS_HEADER)} |")
         return []
     refusals = []
-    after_separator = lines[headers[0] + 2 :]
-    for number, line in takewhile(lambda numbered: is_table_row(numbered[1]), after_separator):
-        cells = table_cells(line)
+    for number, cells in rows:
         if len(cells) == len(REFUSALS_HEADER) and cells[0].isdecimal() and cells[1]:
-            refusals.append(Refusal(cells[0], cells[1]))
+            refusals.append(Refusal(*cells[:3]))
         else:
             tally.fail(f"{README}:{number}: not a row of a number, a name, a condition and a place")
     table = f"{README}: the table of refusals"

@@ -6,14 +6,14 @@ use lib.IntN.{ℤ}
 use lib.ListN.{length, drop}
 use Rattle.plane.specs.declared.Point.{Point}
 use Rattle.entry.specs.Checks.{Check}
-use Rattle.rule.specs.Rows.{TEXT}
 use Rattle.numerals.specs.declared.Numeral.{Numeral}
 use Rattle.numerals.specs.declared.Numeral.the-variants.{Number, Bad}
 use Rattle.reading.specs.declared.Parsed.{Parsed}
 use Rattle.reading.specs.declared.Parsed.the-variants.{Good, None}
 use Rattle.reading.specs.declared.LineRead.{LineRead}
 use Rattle.reading.specs.declared.LineRead.the-variants.{Read, Unread}
-use Rattle.reading.specs.Lines.{newline, beforeFirst, linesOf, lineAt, linePoint, isBad}
+use Rattle.reading.specs.Lines.{newline, beforeFirst, linesOf, lineAt, linePoint}
+use Rattle.reading.specs.Reading.{badLine}
 
 -- the number that bytes were read as
 abbrev pub readAs : Numeral → Option ℤ
@@ -40,4 +40,4 @@ lineFrom t at = lineSays (linePoint (lineAt (linesOf (drop at t)) 0)) (nextLine 
 
 -- the check of a text's lines alone
 abbrev pub linesChecks : List ℕ → List Check
-linesChecks t = TEXT (length (linesOf t)) (λ i. isBad (lineAt (linesOf t) i)) ∷ []
+linesChecks t = badLine t ∷ []

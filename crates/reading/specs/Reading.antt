@@ -15,9 +15,13 @@ use Rattle.reading.specs.Lines.{linesOf, lineAt, isBad, pointsIn}
 abbrev pub pointsRead : List ℕ → List Point
 pointsRead t = pointsIn (linesOf t)
 
+-- TEXT: a bad line
+abbrev pub badLine : List ℕ → Check
+badLine t = TEXT (length (linesOf t)) (λ i. isBad (lineAt (linesOf t) i))
+
 -- MANY for bytes over 65,536, TEXT, MANY for lines over 4,096
 unfoldable pub textChecks : List ℕ → List Check
-textChecks t = MANY 65_536 (length t) ∷ TEXT (length (linesOf t)) (λ i. isBad (lineAt (linesOf t) i)) ∷ MANY mostPoints (length (linesOf t)) ∷ []
+textChecks t = MANY 65_536 (length t) ∷ badLine t ∷ MANY mostPoints (length (linesOf t)) ∷ []
 
 -- the same, and then ROOM: a point for each line, and an output's length
 unfoldable pub readChecks : (t : List ℕ) (out : ℕ) → List Check

@@ -53,10 +53,10 @@ extern "C" {
  * or the order of an array's numbers changes; not when a function or a refusal is added. The archive's function has it in its name, and
  * every program that includes this header refers to that name, so that it does not link with an archive of another version. (A compiler that
  * does not know the attribute retain, as gcc before 11, cannot keep a linker that drops unused sections from dropping this reference.) */
-#define PANBUCKLE_VERSION 1
-#define panbuckle_version panbuckle_version_1
-uint32_t panbuckle_version_1(void);
-PANBUCKLE_KEPT static uint32_t (*const panbuckle_linked)(void) = panbuckle_version_1;
+#define PANBUCKLE_VERSION 2
+#define panbuckle_version panbuckle_version_2
+uint32_t panbuckle_version_2(void);
+PANBUCKLE_KEPT static uint32_t (*const panbuckle_linked)(void) = panbuckle_version_2;
 
 /* The answers. Each is given exactly when its words hold, and those of no earlier check of the function do. With PANBUCKLE_DONE the list,
  * the points or the rectangle is written. On any other answer nothing is written to them, and the place says where: the first point or
@@ -87,7 +87,7 @@ enum {
     PANBUCKLE_PLACE = 1,  /* 0 with PANBUCKLE_DONE */
     PANBUCKLE_COUNT = 2,  /* forward: rectangles; backward: points; a step: points that are left; 0 with a refusal */
     PANBUCKLE_AREA = 3,   /* forward only: the sum of W * H; 0 with a refusal */
-    PANBUCKLE_EDGE = 4    /* forward only: the sum of 2 * (W + H); 0 with a refusal */
+    PANBUCKLE_EDGE = 4    /* forward only: the length of the outline of the marked cells; 0 with a refusal */
 };
 
 /* Forward: the points, in any order, become disjoint rectangles that cover just the cells which the points mark, in rising order of Y,
@@ -100,7 +100,9 @@ enum {
  *          and all of it on any refusal, is as it was. To learn how many rectangles there are, lend no room, NULL and 0: PANBUCKLE_ROOM's
  *          place is their number; then lend four numbers for each. n points on r rows have at most n / 2 * (r - 1) of them; the most
  *          that were seen of 4096 points are 1048576.
- * result   answer, place, count, area, edge: always all five are written.
+ * result   answer, place, count, area, edge: always all five are written. The edge counts the unit sides of marked cells that border on one
+ *          that is not marked, so that it has no seams: on each row the points by rising x in pairs, the distances added, and the same by
+ *          columns. It is at most 2000000000 for each point.
  *
  * Checked in this order, each over the whole input: LENGTH, MANY, WORK, RANGE, REPEATED, ROW, COLUMN, ROOM. */
 PANBUCKLE_ACCESS(__read_only__, 1, 2) PANBUCKLE_ACCESS(__write_only__, 3, 4) PANBUCKLE_ACCESS(__write_only__, 5, 6)

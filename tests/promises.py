@@ -9,7 +9,8 @@ A quote there is a line that begins with '> ', and what keeps it stands in the l
 - each row of README.md's table of refusals has a paragraph that quotes its number and its name and cites something;
 - each must-fail edit, of a crate or of tests/edits, is cited;
 - each quote has lines below it, each line of a list has a label, and no line is too long to read;
-- each sentence of document 01 is quoted, and each quote is of its words, if document 01 lies beside the checkout;
+- each sentence of document 01 is quoted, and each quote is of its words, if document 01 lies beside the checkout; below a heading
+  '## Request N' the same holds of that request of document 02;
 - each promise marked open is written: open (base K), with K from 2 to 6.
 
 Each fault is printed on a line. The last line is 'N passed, M failed', and the exit status is 0
@@ -26,7 +27,7 @@ from pathlib import Path
 
 from counting import report
 from declared import declares, public_functions
-from document01 import check_document, document_beside
+from documents import check_documents
 from pages import Line, citations_of, cited_names, paragraphs_of, parse_page, quotes_of, table_cells, table_rows
 
 PROMISES = "docs/PROMISES.md"
@@ -42,6 +43,7 @@ LABELS = ["says", "proved", "code", "kept", "edit", "test", "later"]
 LIST_LINE = re.compile(r"\s*[-*+] ")
 LABELLED_LINE = re.compile(rf"- (?:{'|'.join(LABELS)}): \S")
 ONE_CITATION = re.compile(r"- \w+: `[^`,]+`")
+REQUEST_HEADING = re.compile(r"## Request (\d+)\b")
 OPEN_MARK = re.compile(r"(?<![\w-])open\s*\([^)]*\)|(?<=: )open\s*$", re.IGNORECASE)
 # With a letter K it is the rule that a reader is told, not a promise.
 GOOD_OPEN_MARK = re.compile(r"open \(base ([2-6K])\)")
@@ -239,6 +241,22 @@ def count_open(lines, tally):
     return count
 
 
+# ---- The documents
+
+
+def quotes_by_request(lines):
+    """The quotes with their places, by the number of the request that the heading above them names; None where it names none."""
+    quotes, request = {None: []}, None
+    for line in lines:
+        if line.text.startswith("## "):
+            named = REQUEST_HEADING.match(line.text)
+            request = named.group(1) if named else None
+            quotes.setdefault(request, [])
+        elif line.is_quote():
+            quotes[request].append((place_of(line), line.quote()))
+    return quotes
+
+
 # ---- All of it
 
 
@@ -260,7 +278,7 @@ def check_page(root, promises, tally):
 
 
 def check_all(root, tally):
-    """Runs every check, and says how many promises are open and whether document 01 was there."""
+    """Runs every check, and says how many promises are open and which document was not there."""
     missing = [path for path in (PROMISES, README) if not (root / path).is_file()]
     for path in missing:
         tally.fail(f"{path}: no such file")
@@ -268,11 +286,7 @@ def check_all(root, tally):
         return
     lines = check_page(root, (root / PROMISES).read_text(encoding="utf-8"), tally)
     print(f"open promises: {count_open(lines, tally)}")
-    document = document_beside(root)
-    if document.is_file():
-        check_document(document, [(place_of(line), line.quote()) for line in lines if line.is_quote()], tally)
-    else:
-        print("document 01 is not beside the checkout, so that no sentence of it was looked for")
+    check_documents(root, quotes_by_request(lines), tally)
 
 
 def main():

@@ -20,6 +20,7 @@ OTHER_SOURCE = "crates/two/src/lib.rt"
 EDIT = "crates/one/must-fail/wrong.edit"
 SCRIPT = "tests/tool.py"
 DOCUMENT = "../shared/01-scope.md"
+REQUESTS = "../shared/02-change-requests.md"
 
 NO_DOCUMENT = "document 01 is not beside the checkout, so that no sentence of it was looked for"
 CONTRACTS = "Every public function carries a contract on its result."
@@ -511,6 +512,43 @@ class Document(CheckerCase):
     def test_quote_of_other_words(self):
         changes = {DOCUMENT: document(), PROMISES: promises(extra="> All is well.\n- later: request 9")}
         self.assert_fault(changes, f"{PROMISES}:{EXTRA_LINE}: not the words of document 01: All is well.")
+
+
+class Requests(CheckerCase):
+    """Quotes of document 02, where it lies beside the checkout."""
+
+    TEXT = "# Requests\n\nTo be done.\n\n1) **All well.** Each is so.\n\n2) **More.** It is not.\n"
+    SECTION = "## Request 1: all well\n\n> All well.\n- later: request 9\n\n> Each is so.\n- later: request 9\n\n"
+
+    def section(self, old="", new=""):
+        """The good page with a section for the first request, of which something is another."""
+        self.assertIn(old, self.SECTION)
+        return promises(extra=self.SECTION.replace(old, new))
+
+    def test_good_section(self):
+        # The two quotes have lists; a test that there are sentences, 2 sentences, 2 lines of quotes.
+        self.assert_passes({REQUESTS: self.TEXT, PROMISES: self.section()}, count=GOOD_COUNT + 2 + 1 + 2 + 2)
+
+    def test_its_quotes_are_not_of_document_01(self):
+        self.assert_passes({DOCUMENT: document(), REQUESTS: self.TEXT, PROMISES: self.section()})
+
+    def test_sentence_missing(self):
+        fault = f"{PROMISES}: a sentence of request 1 of document 02 is not quoted: Each is so."
+        self.assert_fault({REQUESTS: self.TEXT, PROMISES: self.section("> Each is so.\n- later: request 9\n\n")}, fault)
+
+    def test_quote_of_another_request(self):
+        changes = {REQUESTS: self.TEXT, PROMISES: self.section("Each is so.\n", "Each is so. It is not.\n")}
+        self.assert_fault(changes, f"{PROMISES}:{EXTRA_LINE + 5}: not the words of request 1 of document 02: Each is so. It is not.")
+
+    def test_request_that_is_not_there(self):
+        result = run_checker({REQUESTS: self.TEXT, PROMISES: self.section("Request 1", "Request 3")})
+        self.assertIn("request 3 of document 02 has no sentence", result.stdout.splitlines())
+
+    def test_no_document_02(self):
+        result = run_checker({PROMISES: self.section()})
+        said = "document 02 is not beside the checkout, so that no sentence of its request 1 was looked for"
+        self.assertIn(said, result.stdout.splitlines())
+        self.assertEqual(result.returncode, 0)
 
 
 class Refusals(CheckerCase):

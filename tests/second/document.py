@@ -1,4 +1,5 @@
-"""Document 01's forward, step and backward, written from its words; nothing here is taken from the library.
+"""Document 01's forward, step and backward, and what document 02 changes of them, written from their words; nothing here is taken from the
+library.
 
 Arrays are sequences of numbers. A lent one is a list, and is changed as the document's memory paragraph says. Each function returns its
 answer. The refusals of a call are all rows of the table whose condition holds of it, each judged by itself, in the function's order: the
@@ -8,7 +9,7 @@ first of them is the answer.
 from bisect import bisect_left, insort
 from collections import Counter
 from functools import lru_cache
-from itertools import islice
+from itertools import accumulate, islice, pairwise
 
 LOWEST, HIGHEST = -1_000_000_000, 1_000_000_000
 MOST_POINTS = 4096
@@ -124,6 +125,28 @@ def toggle_by_place(work, count, point):
     return last
 
 
+# ---- The edge: document 02, request 1
+
+
+@lru_cache(maxsize=8)
+def outline_length(points):
+    """The number of unit sides with a marked cell on exactly one side. The columns and rows of the points cut the plane into blocks, whose cells
+    are marked together; beyond the first and the last of them no cell is marked. Block by block, the unit sides of a block's lower and left side
+    count if it is marked and its neighbour is not, or the other way round."""
+    columns, rows = sorted({x for x, _ in points}), sorted({y for _, y in points})
+    widths, heights = [b - a for a, b in pairwise(columns)], [*(b - a for a, b in pairwise(rows)), 0]
+    given = Counter(points)
+    at_or_below, below, length = [0] * len(columns), [False] * len(columns), 0
+    for y, height in zip(rows, heights):
+        at_or_left = accumulate(given[x, y] for x in columns)
+        at_or_below = [count + more for count, more in zip(at_or_below, at_or_left)]
+        marked = [odd(count) for count in at_or_below]
+        length += sum(width for width, one, other in zip(widths, below, marked) if one != other)
+        length += height * sum(one != other for one, other in zip([False, *marked], marked))
+        below = marked
+    return length
+
+
 # ---- The backward rule
 
 
@@ -223,7 +246,7 @@ def forward(points, work, rects):
         return answer, place, 0, 0, 0
     made = rectangles(points_of(points))
     rects[: 4 * len(made)] = numbers_of(made)
-    return DONE, 0, len(made), sum(w * h for _, _, w, h in made), sum(2 * (w + h) for _, _, w, h in made)
+    return DONE, 0, len(made), sum(w * h for _, _, w, h in made), outline_length(points_of(points))
 
 
 def step(work, count):

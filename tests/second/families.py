@@ -233,6 +233,20 @@ def grid_groups():
             yield [call("backward", read(numbers_of(made)), lent(len(numbers) + 1))]
 
 
+# ---- Accepted arrays, of which the edge is compared
+
+OUTLINES = 13_000
+
+
+def outline_groups():
+    """Corners of boxes by chance, in range, with just the room that they need."""
+    chance = Random(SEED)
+    for _ in range(OUTLINES):
+        boxes = chance.choice(SHAPES)(chance, chance.randint(2, 12), chance.randint(3, 12))
+        points = tuple(shuffled(chance, odd_corners(boxes, chance.choice((near_zero, low_end, whole_range, anywhere)))))
+        yield [call("forward", read(numbers_of(points)), lent(2 * len(points)), lent(4 * len(document.rectangles(points))))]
+
+
 # ---- Large arrays
 
 LARGE_SHAPES = (

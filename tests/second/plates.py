@@ -1,4 +1,4 @@
-"""The plates A to L of document 01, each with what the document itself states of it: nothing here is computed.
+"""The plates A to L of document 01, each with what the document itself states of it, and document 02 of B's edge: nothing here is computed.
 
 What is stated of an array is how it begins afterwards. None stands for a number that the document does not give.
 """
@@ -49,7 +49,7 @@ def plate_groups():
     calls = (
         forward(A, LENT, (0, 0, 1), (0, 0, 1, 1)),
         one_step(A, (0, 0, 1, 1), (0, 0, 0, 0, 0, 0, 0, 0)),
-        forward(B, LENT, (0, 0, 3, 26, 36), B_LIST),
+        forward(B, LENT, (0, 0, 3, 26, 26), B_LIST),
         forward(C, LENT, (0, 0, 4, 20), C_LIST),
         forward(D, LENT, (0, 0, 4, 12), D_LIST),
         forward(D, 3 * 4, (ROOM, 4, 0, 0, 0)),

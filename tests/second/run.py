@@ -20,9 +20,9 @@ HERE = Path(__file__).resolve().parent
 sys.path.insert(0, str(HERE.parent))
 
 from c_face import archived, built
-from document import NAMES
+from document import DONE, NAMES
 from edges import length_groups, pair_groups, range_groups, room_groups, step_groups, stop_groups
-from families import grid_groups, large_groups, small_groups
+from families import grid_groups, large_groups, outline_groups, small_groups
 from functions import FUNCTIONS, NUMBER, READ
 from machine import ARCHIVE, ROOT, emulator
 from plates import plate_groups
@@ -38,9 +38,12 @@ GENERATORS = (
     grid_groups,
     large_groups,
     small_groups,
+    outline_groups,
 )
 # How many groups of calls, each with an array of its own, there must be at least.
-FEWEST_GROUPS = {"forward": 14_420, "step": 2_875, "backward": 5_765}
+FEWEST_GROUPS = {"forward": 27_420, "step": 2_875, "backward": 5_765}
+# On how many different arrays the edge must be compared at least: that is a field of the result of forward on answer 0.
+FEWEST_EDGES = 20_000
 # The driver is started anew after arrays with so many numbers.
 BATCH = 1_000_000
 MOST_PRINTED = 5
@@ -144,7 +147,7 @@ class Tally:
     """What was compared: of each function the groups, the calls and the answers; and what differs."""
 
     def __init__(self):
-        self.groups, self.calls, self.answers, self.faults = Counter(), Counter(), Counter(), []
+        self.groups, self.calls, self.answers, self.faults, self.edges = Counter(), Counter(), Counter(), [], set()
 
     def add(self, call, line):
         """Compares a call and counts it."""
@@ -152,13 +155,17 @@ class Tally:
         if fault:
             self.faults.append(f"call {sum(self.calls.values())}: {line_of(call)[:LONGEST_PRINTED]}: {fault}")
         self.calls[call.name] += 1
-        self.answers[call.name, line.partition(";")[0]] += 1
+        answer = line.partition(";")[0]
+        self.answers[call.name, answer] += 1
+        if call.name == "forward" and answer == str(DONE):
+            self.edges.add(hash(call.arguments[0].numbers))
 
     def counts(self):
         """What was compared, in words."""
         for name, function in FUNCTIONS.items():
             answers = ", ".join(f"{NAMES[number]} {self.answers[name, str(number)]}" for number in function.answers)
             yield f"{name}: {self.groups[name]} arrays, {self.calls[name]} calls; {answers}"
+        yield f"edge: {len(self.edges)} different arrays"
 
     def gaps(self):
         """What was to be compared and was not."""
@@ -168,6 +175,8 @@ class Tally:
             missing = [NAMES[number] for number in function.answers if not self.answers[name, str(number)]]
             if missing:
                 yield f"{name}: no call is answered with {', '.join(missing)}"
+        if len(self.edges) < FEWEST_EDGES:
+            yield f"edge: there are {len(self.edges)} arrays, and at least {FEWEST_EDGES} are wanted"
 
 
 def printed(command, calls):

@@ -86,7 +86,8 @@ class Comparison(unittest.TestCase):
         gaps = list(tally.gaps())
         self.assertIn("forward: no call is answered with LENGTH, MANY, WORK, RANGE, REPEATED, ROW, COLUMN, ROOM", gaps)
         self.assertIn(f"step: there are 0 arrays, and at least {run.FEWEST_GROUPS['step']} are wanted", gaps)
-        self.assertEqual((len(gaps), tally.faults), (5, []))
+        self.assertIn(f"edge: there are 1 arrays, and at least {run.FEWEST_EDGES} are wanted", gaps)
+        self.assertEqual((len(gaps), tally.faults), (6, []))
 
 
 class Table(unittest.TestCase):
@@ -143,6 +144,18 @@ class Definition(unittest.TestCase):
                 marked = document.odd(sum(x <= a and y <= b for x, y in points))
                 holding = sum(x <= a < x + w and y <= b < y + h for x, y, w, h in document.rectangles(points))
                 self.assertEqual(holding, int(marked))
+
+    def test_the_edge_is_the_number_of_unit_sides(self):
+        for numbers in self.accepted:
+            points = document.points_of(numbers)
+
+            def marked(a, b, points=points):
+                return document.odd(sum(x <= a and y <= b for x, y in points))
+
+            cells = list(product(range(-1, 6), repeat=2))
+            lower = sum(marked(a, b) != marked(a, b - 1) for a, b in cells)
+            left = sum(marked(a, b) != marked(a - 1, b) for a, b in cells)
+            self.assertEqual(document.outline_length(points), lower + left)
 
     def test_there_and_back(self):
         for numbers in self.accepted:

@@ -1,17 +1,18 @@
 -- The customer's demands 2 and 3, of whatever meets the contract of forward: of the answer that the caller gets, and of the output as the
 -- caller finds it afterwards; and what a step keeps. Demand 1 is said of each call in the crate `rule`.
-use mathlib.Core.Path.{_≡_, refl, sym, ap, _∙_}
+use mathlib.Core.Path.{_≡_, refl, sym, ap, fun-ext, _∙_}
 use mathlib.Core.Logic.{_↔_}
 use Prim.Native.Nat.{ℕ, _-_, _*_, _/_, _≤_}
 use native.Mathlib.Omega.{arith}
 use mathlib.Core.Bool.{true}
-use mathlib.Core.List.{List, map}
+use mathlib.Core.List.{List, [], _∷_, map}
 use lib.ListN.{length, take, drop, length-take}
 use lib.IntN.{ℤ}
 use Rattle.plane.specs.declared.Point.{Point}
 use Rattle.plane.specs.declared.Rect.{Rect}
 use Rattle.plane.specs.Lists.{bit, count, sum, Starts}
 use Rattle.plane.specs.Words.{pointsOf, flatRects, rising, lowerLeft, areaOf, edgeOf, holds, marks, cells, rectSize}
+use Rattle.plane.specs.Edge.{edgeLength, unitSides}
 use Rattle.plane.proofs.Arrays.{length-points}
 use Rattle.plane.proofs.AtStart.{rects-layout, first-numbers, past-numbers, first-items}
 use Rattle.entry.specs.Checks.{accepted}
@@ -27,7 +28,8 @@ use Rattle.rule.proofs.Steps.{accepted-step}
 use Rattle.rule.proofs.Working.{work-points}
 use Rattle.rule.proofs.Bound.{rule-bound}
 use Rattle.rule.proofs.Rising.{rule-rising, rule-rects}
-use Rattle.rule.proofs.Demands.{forward-verdict, array-accepted, forward-covers, forward-area, forward-canon}
+use Rattle.rule.proofs.Area.{rule-edge-seams, rule-edge-one}
+use Rattle.rule.proofs.Demands.{forward-verdict, array-accepted, forward-covers, forward-area, forward-edge, forward-canon}
 
 -- ---- Demand 2: the list is the one given by the rule, rectangle for rectangle
 
@@ -35,6 +37,10 @@ module _ {a work out : List ℤ} {r : ForwardAnswer} {work-after out-after : Lis
   -- 0 is what the definition answers
   pub answers-0 : forwardAnswer a (length work) (length out) .answer ≡ 0
   answers-0 = rw (d .answer) at done
+
+  -- the points are accepted
+  points-accepted : Accepted (pointsOf a)
+  points-accepted = array-accepted a (length work) (length out) answers-0
 
   -- the answer is that of the rule's list
   answers-list : r ≡ forwardSays accepted (forwardSums a)
@@ -64,17 +70,17 @@ module _ {a work out : List ℤ} {r : ForwardAnswer} {work-after out-after : Lis
   pub done-told : sumsTold r ≡ forwardSums a
   done-told = rw answers-list
 
-  -- the count, the area (the sum of W·H) and the edge (the sum of 2·(W+H)) are those of the rectangles written
-  pub done-sums : let list = listOf r out-after in (r .count ≡ length list) × (r .area ≡ sum areaOf list) × (r .edge ≡ sum edgeOf list)
-  done-sums = rw (done-list, answers-list) (refl, refl, refl)
+  -- the count and the area (the sum of W·H) are those of the rectangles written
+  pub done-sums : let list = listOf r out-after in (r .count ≡ length list) × (r .area ≡ sum areaOf list)
+  done-sums = rw (done-list, answers-list) (refl, refl)
 
   -- n points on r different rows have at most (n/2)·(r-1) rectangles
   pub done-bound : r .count ≤ length (pointsOf a) / 2 * (rowCount (pointsOf a) - 1)
-  done-bound = rw answers-list (rule-bound (pointsOf a) (array-accepted a (length work) (length out) answers-0))
+  done-bound = rw answers-list (rule-bound (pointsOf a) points-accepted)
 
   -- they come in strictly rising order of (Y, X), each with W and H at least 1, and X, Y, X+W, Y+H in range
   pub done-rising : let list = listOf r out-after in (rising (map lowerLeft list) ≡ true) × AcceptedRects list
-  done-rising = let ok = array-accepted a (length work) (length out) answers-0 in rw done-list (rule-rising (pointsOf a) ok, rule-rects (pointsOf a) ok)
+  done-rising = rw done-list (rule-rising (pointsOf a) points-accepted, rule-rects (pointsOf a) points-accepted)
 
   -- ---- Demand 3: the list covers exactly the marked cells, each once, and goes by them alone
 
@@ -87,11 +93,33 @@ module _ {a work out : List ℤ} {r : ForwardAnswer} {work-after out-after : Lis
   pub done-area : r .area ≡ cells (marks (pointsOf a))
   done-area = rw (d .answer) (forward-area a (length work) (length out) answers-0)
 
+  -- ---- Request 1: the edge is the outline of the marked cells
+
+  -- on each row the points by rising x in pairs, the distances added, and the same by columns
+  pub done-edge : r .edge ≡ edgeLength (pointsOf a)
+  done-edge = rw answers-list
+
+  -- that is the number of unit sides with a marked cell on exactly one side
+  pub done-edge-sides : r .edge ≡ unitSides (marks (pointsOf a))
+  done-edge-sides = rw (d .answer) (forward-edge a (length work) (length out) answers-0)
+
+  -- it is at most the sum of 2·(W+H) over the list: where two rectangles abut, nothing counts
+  pub done-edge-seams : r .edge ≤ sum edgeOf (listOf r out-after)
+  done-edge-seams = rw (done-list, done-edge) (rule-edge-seams (pointsOf a) points-accepted)
+
+  -- and for one rectangle it is 2·(W+H)
+  pub done-edge-one : (q : Rect) → listOf r out-after ≡ q ∷ [] → r .edge ≡ edgeOf q
+  done-edge-one q e = done-edge ∙ rule-edge-one (pointsOf a) points-accepted q (sym done-list ∙ e)
+
 module _ {a work out : List ℤ} {r : ForwardAnswer} {work-after out-after : List ℤ} (d : ForwardDone a work out r work-after out-after)
     {b work′ out′ : List ℤ} {s : ForwardAnswer} {work′-after out′-after : List ℤ} (e : ForwardDone b work′ out′ s work′-after out′-after) where
   -- two arrays with answer 0 get equal lists exactly when they mark the same cells, in any order of points
   pub done-canon : r .answer ≡ 0 → s .answer ≡ 0 → (listOf r out-after ≡ listOf s out′-after) ↔ ((x y : ℤ) → marks (pointsOf a) x y ≡ marks (pointsOf b) x y)
   done-canon done done′ = rw (done-list d done, done-list e done′) (forward-canon a b (length work) (length out) (length work′) (length out′) (answers-0 d done) (answers-0 e done′))
+
+  -- then they have equal edges
+  pub done-edge-canon : r .answer ≡ 0 → s .answer ≡ 0 → ((x y : ℤ) → marks (pointsOf a) x y ≡ marks (pointsOf b) x y) → r .edge ≡ s .edge
+  done-edge-canon done done′ same = done-edge-sides d done ∙ ap unitSides (fun-ext (λ x. fun-ext (λ y. same x y))) ∙ sym (done-edge-sides e done′)
 
 -- ---- A step
 

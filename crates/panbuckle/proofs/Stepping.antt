@@ -9,7 +9,8 @@ use lib.IntN.{ℤ}
 use Rattle.plane.specs.declared.Point.{Point}
 use Rattle.plane.specs.declared.Rect.{Rect}
 use Rattle.plane.specs.Lists.{sum}
-use Rattle.plane.specs.Words.{pointsOf, areaOf, edgeOf, flatRects}
+use Rattle.plane.specs.Words.{pointsOf, areaOf, flatRects}
+use Rattle.plane.specs.Edge.{edgeLength}
 use Rattle.rule.specs.declared.ForwardAnswer.{ForwardAnswer}
 use Rattle.rule.specs.declared.StepAnswer.{StepAnswer}
 use Rattle.rule.specs.declared.StepAnswer.the-variants.{Rectangle, Refused}
@@ -142,8 +143,9 @@ module _ {a work out : List ℤ} {r : ForwardAnswer} {w o : List ℤ} (d : Forwa
   answers : (k : ℕ) → r .answer ≡ k → forwardAnswer a (length work) (length out) .answer ≡ k
   answers k z = rw (d .answer) at z
 
-  -- on 0 forward gives the calls' rectangles: their count, area and edge, the output with them, and the working array as they leave it
-  pub forward-done-stepped : r .answer ≡ 0 → (r .count ≡ length rs) × (r .area ≡ sum areaOf rs) × (r .edge ≡ sum edgeOf rs) × (o ≡ flatRects rs ++ drop (length (flatRects rs)) out) × (w ≡ v)
+  -- on 0 forward gives the calls' rectangles: their count, their area and the edge of the points copied, the output with them, and the working array
+  -- as they leave it
+  pub forward-done-stepped : r .answer ≡ 0 → (r .count ≡ length rs) × (r .area ≡ sum areaOf rs) × (r .edge ≡ edgeLength (pointsOf a)) × (o ≡ flatRects rs ++ drop (length (flatRects rs)) out) × (w ≡ v)
   unfolding forwardAnswer forwardOut
   forward-done-stepped z =
       let e = answers 0 z in

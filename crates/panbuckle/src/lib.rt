@@ -11,6 +11,7 @@ ghost use lib.Signed.{ltZ};
 ghost use lib.ListN.{length};
 ghost use Prim.Native.Nat.{_+_, _*_, _<_, _≤_};
 ghost use Rattle.plane.specs.Words.{origin, same, pointAt, pointsOf};
+ghost use Rattle.plane.specs.Edge.{edgeLength};
 ghost use Rattle.entry.specs.Checks.{verdict};
 ghost use Rattle.entry.specs.Entry.{counted};
 ghost use Rattle.rule.specs.Rule.{firstOf, rightOf, placeOf, pickM, rectOf, toggle, toggleFour};
@@ -324,9 +325,9 @@ fn take_rectangle(work: &mut [i32], n: usize) -> StepAnswer
 
 // ---- Checks
 
-// A step's checks.
+// What a step's checks refuse; or the edge of the points, for which a step has no use.
 fn check_work(work: &[i32], n: usize) -> Counted
-    ensures { λ r. ⌜ r ≡ counted (verdict (stepChecks (now (work .entry)) n)) (length (held n (now (work .entry)))) ⌝ }
+    ensures { λ r. ⌜ r ≡ counted (verdict (stepChecks (now (work .entry)) n)) (edgeLength (held n (now (work .entry)))) ⌝ }
 {
     if MOST_POINTS < n {
         return refusal(MANY, 0);
@@ -342,8 +343,8 @@ fn check_work(work: &[i32], n: usize) -> Counted
 
 // ---- The public functions
 
-// The rectangles of the array's points, written to `rects`, with their count, area and edge; or a refusal, which leaves `rects` as it
-// was. `points` is only read; `work` needs two numbers for each point.
+// The rectangles of the array's points, written to `rects`, with their count, their area and the length of the outline of the cells that they
+// cover; or a refusal, which leaves `rects` as it was. `points` is only read; `work` needs two numbers for each point.
 pub fn forward(points: &[i32], work: &mut [i32], rects: &mut [i32]) -> ForwardAnswer
     ensures { λ r. ⌜ ForwardDone (now (points .entry)) (now (work .entry)) (now (rects .entry)) r (now (work .exit)) (now (rects .exit)) ⌝ }
 {

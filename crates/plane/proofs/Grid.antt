@@ -1,16 +1,16 @@
 -- Counting cells: rectangles that together hold just the cells that pass a test, each once, have areas that add up to
 -- the number of those cells. All is proved for a square of n by n cells at (z, z), and the range is one such square.
-use mathlib.Core.Path.{_≡_, refl, sym, ap₂, _∙_}
+use mathlib.Core.Path.{_≡_, refl, sym, ap, ap₂, _∙_}
 use Prim.Native.Nat.{ℕ, zero, suc, _+_, _-_, _*_, _≤_, min}
 use native.Mathlib.Omega.{arith}
-use mathlib.Core.Bool.{Bool, true, false, _&&_, true≢false}
+use mathlib.Core.Bool.{Bool, true, false, _&&_}
 use mathlib.Core.List.{List, List·Memᴰ as In}
-use lib.IntN.{ℤ, pos, negsuc, natAbs, _+ℤ_}
+use lib.IntN.{ℤ, pos, natAbs, _+ℤ_, _-ℤ_}
 use lib.Signed.{leZ, ltZ}
 use Rattle.plane.specs.declared.Rect.{Rect}
 use Rattle.plane.specs.Lists.{bit, count, sum, sumBelow}
-use Rattle.plane.specs.Words.{lowEnd, highEnd, inRange, right, top, rectInRange, flat, areaOf, holds, cellsFrom, cells}
-use Rattle.plane.proofs.Order.{order, up, dn, add-up, pos-up}
+use Rattle.plane.specs.Words.{lowEnd, highEnd, rangeSize, inRange, right, top, rectInRange, flat, areaOf, holds, cellsFrom, cells}
+use Rattle.plane.proofs.Order.{order, up, dn, add-up, add-more, side-is, distance-up, pos-up}
 use Rattle.plane.proofs.Bools.{and-parts, and-four, or-parts, bit-most}
 use Rattle.plane.proofs.Sums.{sum-cong, count-sum, below-cong, below-most, below-sum, below-pairs}
 
@@ -31,12 +31,13 @@ between z x y (suc n) h k = go (leZ x (z +ℤ pos n)) refl (ltZ (z +ℤ pos n) y
     go true d false e s ih = omega (order, add-up z (pos n), pos-up n)
     go false d c e s ih = omega (order, add-up z (pos n), pos-up n)
 
--- they are w, where x and x + w are not outside
-span : (z x w : ℤ) (n : ℕ) → ltZ w (pos 1) ≡ false → leZ z x ≡ true → leZ (x +ℤ w) (z +ℤ pos n) ≡ true → sumBelow n (λ i. bit (leZ x (z +ℤ pos i) && ltZ (z +ℤ pos i) (x +ℤ w))) ≡ natAbs w
-span z x (pos v) n d h k =
-    let rises : leZ x (x +ℤ pos v) ≡ true = omega (order, add-up x (pos v), pos-up v) in
-    omega (order, between z x (x +ℤ pos v) n h rises, add-up x (pos v), pos-up v, add-up z (pos n), pos-up n)
-span z x (negsuc v) n d h k = absurd (true≢false d)
+-- they are the distance from x to y, where both are not outside
+pub distance-counts : (z x y : ℤ) (n : ℕ) → leZ z x ≡ true → leZ x y ≡ true → leZ y (z +ℤ pos n) ≡ true → sumBelow n (λ i. bit (leZ x (z +ℤ pos i) && ltZ (z +ℤ pos i) y)) ≡ natAbs (y -ℤ x)
+distance-counts z x y n h k l = omega (order, between z x y n h k, distance-up x y k, add-up z (pos n), pos-up n)
+
+-- from x up to x + w they are w
+pub span : (z x w : ℤ) (n : ℕ) → ltZ w (pos 1) ≡ false → leZ z x ≡ true → leZ (x +ℤ w) (z +ℤ pos n) ≡ true → sumBelow n (λ i. bit (leZ x (z +ℤ pos i) && ltZ (z +ℤ pos i) (x +ℤ w))) ≡ natAbs w
+span z x w n d h k = let rises = add-more x w d in distance-counts z x (x +ℤ w) n h (omega order) k ∙ ap natAbs (side-is x w)
 
 -- ---- Cells of a square
 
@@ -64,7 +65,7 @@ square-sum z n rs t h = sym (below-sum n (λ i r. sumBelow n (λ j. bit (holds (
     line a = sym (below-sum n (λ j r. bit (holds a (z +ℤ pos j) r)) rs) ∙ below-cong n (λ j. sym (count-sum (holds a (z +ℤ pos j)) rs) ∙ h a (z +ℤ pos j))
 
 -- at most all the cells of a square pass
-square-most : (z : ℤ) (n : ℕ) (t : ℤ → ℤ → Bool) → cellsFrom z n t ≤ n * n
+pub square-most : (z : ℤ) (n : ℕ) (t : ℤ → ℤ → Bool) → cellsFrom z n t ≤ n * n
 unfolding cellsFrom
 square-most z n t = below-most n n _ (λ i. line (z +ℤ pos i))
   where
@@ -88,17 +89,17 @@ range-within r e =
 -- a rectangle in range holds W · H cells
 pub cells-hold : (r : Rect) → flat r ≡ false → rectInRange r ≡ true → cells (λ a b. holds a b r) ≡ areaOf r
 unfolding cells
-cells-hold r f e = square-hold lowEnd 2_000_000_000 r f (range-within r e)
+cells-hold r f e = square-hold lowEnd rangeSize r f (range-within r e)
 
 -- the areas of rectangles that hold just the cells that pass a test, each once, add up to the number of those cells
 pub cells-areas : (rs : List Rect) (t : ℤ → ℤ → Bool) → ((r : Rect) → In r rs → flat r ≡ false) → ((r : Rect) → In r rs → rectInRange r ≡ true) → ((a b : ℤ) → count (holds a b) rs ≡ bit (t a b)) → sum areaOf rs ≡ cells t
 unfolding cells
-cells-areas rs t f e h = sum-cong areaOf _ rs (λ r m. sym (cells-hold r (f r m) (e r m))) ∙ square-sum lowEnd 2_000_000_000 rs t h
+cells-areas rs t f e h = sum-cong areaOf _ rs (λ r m. sym (cells-hold r (f r m) (e r m))) ∙ square-sum lowEnd rangeSize rs t h
 
 -- no test passes more cells than there are in the range
 pub cells-most : (t : ℤ → ℤ → Bool) → cells t ≤ 4_000_000_000_000_000_000
 unfolding cells
-cells-most t = square-most lowEnd 2_000_000_000 t
+cells-most t = square-most lowEnd rangeSize t
 
 -- a rectangle in range holds no cell out of the range
 pub held-in-range : (a b : ℤ) (r : Rect) → rectInRange r ≡ true → holds a b r ≡ true → ((leZ lowEnd a ≡ true) × (ltZ a highEnd ≡ true)) × ((leZ lowEnd b ≡ true) × (ltZ b highEnd ≡ true))

@@ -15,4 +15,7 @@ pub mod Places
 pub mod Keys
 pub mod Sorted
 pub mod Swaps
+pub mod Different
+pub mod Lines
+pub mod Edge
 pub mod Outcomes

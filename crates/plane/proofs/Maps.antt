@@ -1,10 +1,11 @@
--- Laws of `map`: the image at a place, a place stored to, sums, and a map undone by another.
-use mathlib.Core.Path.{_≡_, refl, ap, ap₂}
+-- Laws of `map`: the image at a place, a place stored to, sums, what holds of the images, and a map undone by another.
+use mathlib.Core.Path.{_≡_, refl, sym, ap, ap₂, subst}
 use Prim.Native.Nat.{ℕ, zero, suc, _+_, _<_}
 use native.Mathlib.Omega.{arith}
+use mathlib.Core.Bool.{Bool, _||_}
 use mathlib.Core.List.{List, [], _∷_, map, List·Memᴰ as In, List·Memᴰ·head as head, List·Memᴰ·tail as tail}
 use lib.ListN.{length, getD, set}
-use Rattle.plane.specs.Lists.{sum}
+use Rattle.plane.specs.Lists.{any, sum}
 
 module _ {A B : Type 0} where
   -- the image at a place
@@ -24,6 +25,22 @@ module _ {A B : Type 0} where
   unfolding sum
   sum-map w f [] = refl
   sum-map w f (a ∷ l) = ap (λ n. w (f a) + n) (sum-map w f l)
+
+  -- some image passes a test
+  pub any-map : (t : B → Bool) (f : A → B) (l : List A) → any t (map f l) ≡ any (λ a. t (f a)) l
+  unfolding any
+  any-map t f [] = refl
+  any-map t f (a ∷ l) = ap (λ b. t (f a) || b) (any-map t f l)
+
+  -- what holds of each image holds of all
+  pub map-all : (P : B → Type 0) (f : A → B) (l : List A) → ((a : A) → In a l → P (f a)) → (b : B) → In b (map f l) → P b
+  map-all P f (a ∷ l) h b (head e) = subst P (sym e) (h a (head refl))
+  map-all P f (a ∷ l) h b (tail m) = map-all P f l (λ c n. h c (tail n)) b m
+
+  -- an element's image is one of the images
+  pub map-in : (f : A → B) {a : A} {l : List A} → In a l → In (f a) (map f l)
+  map-in f {l = b ∷ l} (head e) = head (ap f e)
+  map-in f {l = b ∷ l} (tail m) = tail (map-in f m)
 
   -- a map that takes each image back gives the list back
   pub map-back : (f : A → B) (g : B → A) (l : List A) → ((a : A) → In a l → g (f a) ≡ a) → map g (map f l) ≡ l

@@ -170,6 +170,28 @@ unfolding up dn
 abs-up (pos n) h = omega arith
 abs-up (negsuc n) h = absurd (omega arith)
 
+-- and of one that is not positive
+abs-down : (z : ℤ) → up z ≤ dn z → natAbs z + up z ≡ dn z
+unfolding up dn
+abs-down (pos n) h = omega arith
+abs-down (negsuc n) h = omega arith
+
+-- the distance to a number that is not lower
+pub distance-up : (a b : ℤ) → leZ a b ≡ true → natAbs (b -ℤ a) + (up a + dn b) ≡ up b + dn a
+distance-up a b h =
+    let s = add-up a (b -ℤ a) in
+    let t = far-side a b in
+    let d : dn (b -ℤ a) ≤ up (b -ℤ a) = omega order in
+    omega (order, abs-up (b -ℤ a) d)
+
+-- and to one that is not higher
+pub distance-down : (a b : ℤ) → leZ b a ≡ true → natAbs (b -ℤ a) + (up b + dn a) ≡ up a + dn b
+distance-down a b h =
+    let s = add-up a (b -ℤ a) in
+    let t = far-side a b in
+    let d : up (b -ℤ a) ≤ dn (b -ℤ a) = omega order in
+    omega (order, abs-down (b -ℤ a) d)
+
 -- one less
 pub pred-up : (z : ℤ) → up (predℤ z) + dn z + 1 ≡ dn (predℤ z) + up z
 unfolding up dn
@@ -188,6 +210,12 @@ pub mag-most : (z : ℤ) (n : ℕ) → up z ≤ dn z + n → dn z ≤ up z + n �
 unfolding up dn
 mag-most (pos m) n g h = omega arith
 mag-most (negsuc m) n g h = omega arith
+
+-- and is that near to 0
+pub abs-most : (z : ℤ) (n : ℕ) → up z ≤ dn z + n → dn z ≤ up z + n → natAbs z ≤ n
+unfolding up dn
+abs-most (pos m) n g h = omega arith
+abs-most (negsuc m) n g h = omega arith
 
 -- a number of 32 bits is less than 2^31 above 0 and at most 2^31 below
 pub bits-up : (z : ℤ) → mag z < 2 ^ 31 → (up z < dn z + 2 ^ 31) × (dn z ≤ up z + 2 ^ 31)

@@ -1,12 +1,18 @@
--- Laws of `odd`, for any test: over a list, over two tests, and over classes of elements.
+-- Laws of `odd`, for any test: over a list, over images, over two tests, and over classes of elements.
 use mathlib.Core.Path.{_≡_, refl, sym, ap, _∙_}
 use Prim.Native.Nat.{_≤_}
 use native.Mathlib.Omega.{arith}
 use mathlib.Core.Bool.{Bool, true, false, not, _&&_, xor, false≢true, and-assoc, and-false}
-use mathlib.Core.List.{List, [], _∷_, _++_, List·Memᴰ as In, List·Memᴰ·head as head, List·Memᴰ·tail as tail}
+use mathlib.Core.List.{List, [], _∷_, _++_, map, List·Memᴰ as In, List·Memᴰ·head as head, List·Memᴰ·tail as tail}
 use Rattle.plane.specs.Lists.{bit, any, count, odd, sum, keep, only}
 use Rattle.plane.proofs.Bools.{clash, by, iff, and-parts, xor-self, xor-false, false-xor, xor-back, xor-assoc, xor-swap, isOdd, isOdd-bit}
 use Rattle.plane.proofs.Sums.{sum-zero, any-find, any-in, count-sum, count-in, count-none}
+
+-- over images
+pub odd-map : {A B : Type 0} (f : B → Bool) (g : A → B) (l : List A) → odd f (map g l) ≡ odd (λ a. f (g a)) l
+unfolding odd
+odd-map f g [] = refl
+odd-map f g (a ∷ l) = ap (xor (f (g a))) (odd-map f g l)
 
 module _ {A : Type 0} where
   -- of no elements
@@ -40,6 +46,14 @@ module _ {A : Type 0} where
   pub odd-find : (f : A → Bool) (l : List A) → odd f l ≡ true → (a : A) × In a l × (f a ≡ true)
   unfolding isOdd
   odd-find f l e = any-find f l (by (any f l) (λ n. clash e (odd-sum f l ∙ ap isOdd (sym (count-sum f l) ∙ count-none f l n))))
+
+  -- an odd number is at least 1
+  pub odd-most : (f : A → Bool) (l : List A) → bit (odd f l) ≤ sum (λ a. bit (f a)) l
+  odd-most f l = go (odd f l) refl
+    where
+      go : (t : Bool) → odd f l ≡ t → bit t ≤ sum (λ a. bit (f a)) l
+      go true e = let r = odd-find f l e in omega (arith, count-sum f l, count-in f (r .1) (r .2))
+      go false e = omega arith
 
   -- one list after another
   pub odd-append : (f : A → Bool) (l m : List A) → odd f (l ++ m) ≡ xor (odd f l) (odd f m)

@@ -215,6 +215,26 @@ module _ {A : Type 0} where
       go ih true (tail n) = tail (ih n)
       go ih false n = tail (ih n)
 
+  -- and passes
+  pub only-passes : (f : A → Bool) (l : List A) {a : A} → In a (only f l) → f a ≡ true
+  unfolding only
+  only-passes f (b ∷ l) m = go (only-passes f l) (f b) refl m
+    where
+      go : {a : A} → (In a (only f l) → f a ≡ true) → (t : Bool) → f b ≡ t → In a (keep t b (only f l)) → f a ≡ true
+      go ih true d (head e) = ap f e ∙ d
+      go ih true d (tail n) = ih n
+      go ih false d n = ih n
+
+  -- a weight summed over what passes
+  pub sum-only : (w : A → ℕ) (f : A → Bool) (l : List A) → sum w (only f l) ≡ sum (λ a. bit (f a) * w a) l
+  unfolding sum only
+  sum-only w f [] = refl
+  sum-only w f (a ∷ l) = go (f a) (sum-only w f l)
+    where
+      go : (t : Bool) → sum w (only f l) ≡ sum (λ b. bit (f b) * w b) l → sum w (keep t a (only f l)) ≡ bit t * w a + sum (λ b. bit (f b) * w b) l
+      go true ih = omega arith
+      go false ih = omega arith
+
   -- no more pass than there are
   pub length-only : (f : A → Bool) (l : List A) → length (only f l) ≤ length l
   unfolding only
@@ -245,9 +265,33 @@ unfolding sumBelow
 below-most zero c u h = omega arith
 below-most (suc n) c u h = let ih = below-most n c u h in omega (arith, h n)
 
+-- weights that are no greater
+pub below-le : (n : ℕ) (u v : ℕ → ℕ) → ((i : ℕ) → u i ≤ v i) → sumBelow n u ≤ sumBelow n v
+unfolding sumBelow
+below-le zero u v h = omega arith
+below-le (suc n) u v h = omega (arith, h n, below-le n u v h)
+
 -- weights of 0
-below-zero : (n : ℕ) → sumBelow n (λ i. 0) ≡ 0
-below-zero n = omega (arith, below-most n 0 (λ i. 0) (λ i. omega arith))
+pub below-zero : (n : ℕ) (w : ℕ → ℕ) → ((i : ℕ) → w i ≡ 0) → sumBelow n w ≡ 0
+below-zero n w h = omega (arith, below-most n 0 w (λ i. omega (arith, h i)))
+
+-- two weights added
+pub below-plus : (n : ℕ) (u v : ℕ → ℕ) → sumBelow n (λ i. u i + v i) ≡ sumBelow n u + sumBelow n v
+unfolding sumBelow
+below-plus zero u v = omega arith
+below-plus (suc n) u v = let ih = below-plus n u v in omega arith
+
+-- a weight times a number
+pub below-times : (n c : ℕ) (u : ℕ → ℕ) → sumBelow n (λ i. u i * c) ≡ sumBelow n u * c
+unfolding sumBelow
+below-times zero c u = omega arith
+below-times (suc n) c u = omega (arith, below-times n c u)
+
+-- sums of sums, added up the other way round
+pub below-swap : (n m : ℕ) (w : ℕ → ℕ → ℕ) → sumBelow n (λ i. sumBelow m (λ j. w i j)) ≡ sumBelow m (λ j. sumBelow n (λ i. w i j))
+unfolding sumBelow
+below-swap zero m w = sym (below-zero m (λ j. 0) (λ j. refl))
+below-swap (suc n) m w = ap (λ k. sumBelow m (w n) + k) (below-swap n m w) ∙ sym (below-plus m (w n) (λ j. sumBelow n (λ i. w i j)))
 
 -- sums over a list, added up the other way round
 pub below-sum : {A : Type 0} (n : ℕ) (w : ℕ → A → ℕ) (l : List A) → sumBelow n (λ i. sum (w i) l) ≡ sum (λ a. sumBelow n (λ i. w i a)) l
@@ -263,7 +307,7 @@ below-pairs f g (suc n) m = go (f n) _ _ (below-pairs f g n m)
   where
     go : (b : Bool) (p q : ℕ) → p ≡ q * sumBelow m (λ j. bit (g j)) → sumBelow m (λ j. bit (b && g j)) + p ≡ (bit b + q) * sumBelow m (λ j. bit (g j))
     go true p q ih = omega arith
-    go false p q ih = omega (arith, below-zero m)
+    go false p q ih = omega (arith, below-zero m (λ j. 0) (λ j. refl))
 
 -- with one more number
 pub below-next : (n : ℕ) (w : ℕ → ℕ) → sumBelow (n + 1) w ≡ w n + sumBelow n w

@@ -3,3 +3,4 @@ pub mod Words
 pub mod Keys
 pub mod Sorted
 pub mod Swaps
+pub mod Edge

@@ -1,6 +1,6 @@
 -- The words of document 01: points, rectangles, the range, cells, rows and columns, and the order of points.
 use Prim.Native.Nat.{ℕ, _+_, _*_}
-use mathlib.Core.Bool.{Bool, true, false, cond, _&&_, _||_}
+use mathlib.Core.Bool.{Bool, true, false, not, cond, _&&_, _||_}
 use mathlib.Core.List.{List, [], _∷_}
 use lib.ListN.{getD}
 use lib.IntN.{ℤ, pos, negsuc, natAbs, _+ℤ_}
@@ -8,7 +8,7 @@ use lib.Signed.{leZ, ltZ}
 use lib.Dec.{eqb}
 use Rattle.plane.specs.declared.Point.{Point}
 use Rattle.plane.specs.declared.Rect.{Rect}
-use Rattle.plane.specs.Lists.{bit, odd, sumBelow}
+use Rattle.plane.specs.Lists.{bit, any, odd, keep, sumBelow}
 
 -- ---- Numbers
 
@@ -19,6 +19,11 @@ eqZ (pos a) (negsuc b) = false
 eqZ (negsuc a) (pos b) = false
 eqZ (negsuc a) (negsuc b) = eqb a b
 
+-- the numbers of a list, each once
+unfoldable pub different : List ℤ → List ℤ
+different [] = []
+different (z ∷ zs) = keep (not (any (eqZ z) zs)) z (different zs)
+
 -- -1,000,000,000, the low end of the range
 abbrev pub lowEnd : ℤ
 lowEnd = negsuc 999_999_999
@@ -26,6 +31,10 @@ lowEnd = negsuc 999_999_999
 -- 1,000,000,000, the high end
 abbrev pub highEnd : ℤ
 highEnd = pos 1_000_000_000
+
+-- how many cells wide and high the range is
+abbrev pub rangeSize : ℕ
+rangeSize = 2_000_000_000
 
 -- a number is in the range
 unfoldable pub inRange : ℤ → Bool
@@ -179,4 +188,4 @@ cellsFrom z n t = sumBelow n (λ i. sumBelow n (λ j. bit (t (z +ℤ pos i) (z +
 
 -- how many cells of the range pass a test
 unfoldable pub cells : (ℤ → ℤ → Bool) → ℕ
-cells t = cellsFrom lowEnd 2_000_000_000 t
+cells t = cellsFrom lowEnd rangeSize t

@@ -1,34 +1,41 @@
--- The area reported is the number of marked cells, at most 4·10^18; the edge reported fits 64 bits.
-use mathlib.Core.Path.{_≡_, refl, ap}
-use Prim.Native.Nat.{ℕ, zero, suc, _+_, _*_, _^_, _≤_, _<_}
+-- The area reported is the number of marked cells, at most 4·10^18. The edge reported is the number of unit sides with a marked cell on exactly one
+-- side, at most 2·10^9 for each point; for one rectangle it is 2·(W+H), and for any list at most the sum of these.
+use mathlib.Core.Path.{_≡_, refl, sym, ap, fun-ext, _∙_}
+use Prim.Native.Nat.{ℕ, _*_, _≤_}
 use native.Mathlib.Omega.{arith}
-use mathlib.Core.Bool.{true, false, true≢false}
-use mathlib.Core.List.{List, [], _∷_, List·Memᴰ as In, List·Memᴰ·head as head, List·Memᴰ·tail as tail}
-use lib.IntN.{ℤ, pos, negsuc, natAbs}
+use mathlib.Core.Bool.{Bool, true, false}
+use mathlib.Core.List.{List, [], _∷_, List·Memᴰ·head as head}
+use lib.ListN.{length}
+use lib.IntN.{ℤ}
 use lib.Signed.{leZ, ltZ}
 use Rattle.plane.specs.declared.Point.{Point}
 use Rattle.plane.specs.declared.Rect.{Rect}
-use Rattle.plane.specs.Lists.{bit, sum}
-use Rattle.plane.specs.Words.{lowEnd, highEnd, flat, areaOf, edgeOf, marks, holds, cells}
-use Rattle.plane.proofs.Order.{order, pos-up}
-use Rattle.plane.proofs.Bools.{or-parts}
-use Rattle.plane.proofs.Sums.{count-find}
-use Rattle.plane.proofs.Grid.{cells-areas, cells-most, held-in-range}
+use Rattle.plane.specs.Lists.{bit, odd, sum}
+use Rattle.plane.specs.Words.{lowEnd, highEnd, rangeSize, inRange, areaOf, edgeOf, marks, holds, cells}
+use Rattle.plane.specs.Edge.{edgeLength, lowerSide, leftSide, unitSides}
+use Rattle.plane.proofs.Bools.{xor-false, isOdd}
+use Rattle.plane.proofs.Sums.{sum-cong, count-sum}
+use Rattle.plane.proofs.Parity.{odd-sum}
+use Rattle.plane.proofs.Grid.{cells-areas, cells-most}
+use Rattle.plane.proofs.Edge.{Balanced, edge-counts, edge-most, marked-inside, lower-inside, left-inside, sides-hold, sides-odd}
 use Rattle.rule.specs.Rule.{ruleList}
 use Rattle.rule.specs.Rows.{Accepted}
 use Rattle.rule.proofs.Cover.{rule-covers}
 use Rattle.rule.proofs.Rising.{rule-rects}
 
+-- ---- The area
+
 -- the sum of W · H is the number of marked cells of the range
 pub rule-area : (ps : List Point) → Accepted ps → sum areaOf (ruleList ps) ≡ cells (marks ps)
 rule-area ps acc = cells-areas (ruleList ps) (marks ps) (rule-rects ps acc .solid) (rule-rects ps acc .range) (rule-covers ps acc)
 
--- and no cell out of the range is marked
+-- accepted points are in range, with even rows and columns
+pub accepted-balanced : {ps : List Point} → Accepted ps → Balanced ps
+accepted-balanced acc = record { range = acc .range; rows = acc .rows; columns = acc .columns }
+
+-- no cell out of the range is marked
 pub marked-in-range : (ps : List Point) → Accepted ps → (a b : ℤ) → marks ps a b ≡ true → ((leZ lowEnd a ≡ true) × (ltZ a highEnd ≡ true)) × ((leZ lowEnd b ≡ true) × (ltZ b highEnd ≡ true))
-marked-in-range ps acc a b e =
-    let one : bit (marks ps a b) ≡ 1 = ap bit e in
-    let r = count-find (holds a b) (ruleList ps) (omega (arith, rule-covers ps acc a b)) in
-    held-in-range a b (r .0) (rule-rects ps acc .range (r .0) (r .1)) (r .2)
+marked-in-range ps acc = marked-inside ps (accepted-balanced acc)
 
 -- at most 4·10^18
 pub rule-area-most : (ps : List Point) → Accepted ps → sum areaOf (ruleList ps) ≤ 4_000_000_000_000_000_000
@@ -36,24 +43,38 @@ rule-area-most ps acc = rw (rule-area ps acc) (cells-most (marks ps))
 
 -- ---- The edge
 
--- 2 (W + H) is at most 4 W · H, where W and H are at least 1
-edge-area : (r : Rect) → flat r ≡ false → edgeOf r ≤ 4 * areaOf r
-unfolding edgeOf areaOf flat
-edge-area r f = let h = or-parts (ltZ (r .w) (pos 1)) (ltZ (r .h) (pos 1)) f in sides _ _ (positive (r .w) (h .0)) (positive (r .h) (h .1))
+-- it is the number of unit sides with a marked cell on exactly one side
+pub rule-edge : (ps : List Point) → Accepted ps → edgeLength ps ≡ unitSides (marks ps)
+rule-edge ps acc = edge-counts ps (accepted-balanced acc)
+
+-- and of those that are not counted none has a marked cell on exactly one side
+pub sides-in-range : (ps : List Point) → Accepted ps → (a b : ℤ) → (lowerSide (marks ps) a b ≡ true → (inRange a ≡ true) × (inRange b ≡ true)) × (leftSide (marks ps) a b ≡ true → (inRange a ≡ true) × (inRange b ≡ true))
+sides-in-range ps acc a b = let h = accepted-balanced acc in (lower-inside ps h a b, left-inside ps h a b)
+
+-- at most 2·10^9 for each point
+pub rule-edge-most : (ps : List Point) → Accepted ps → edgeLength ps ≤ length ps * rangeSize
+rule-edge-most ps acc = edge-most ps (accepted-balanced acc)
+
+-- a cell is marked just if an odd number of the list's rectangles hold it
+marks-held : (ps : List Point) → Accepted ps → (λ a b. odd (holds a b) (ruleList ps)) ≡ marks ps
+unfolding isOdd
+marks-held ps acc = fun-ext (λ a. fun-ext (λ b. odd-sum (holds a b) (ruleList ps) ∙ ap isOdd (sym (count-sum (holds a b) (ruleList ps)) ∙ rule-covers ps acc a b) ∙ bit-odd (marks ps a b)))
   where
-    positive : (z : ℤ) → ltZ z (pos 1) ≡ false → 1 ≤ natAbs z
-    positive (pos n) e = omega (order, pos-up n, pos-up 1)
-    positive (negsuc n) e = absurd (true≢false e)
+    bit-odd : (t : Bool) → isOdd (bit t) ≡ t
+    bit-odd true = refl
+    bit-odd false = refl
 
-    sides : (w h : ℕ) → 1 ≤ w → 1 ≤ h → 2 * (w + h) ≤ 4 * (w * h)
-    sides zero h i j = absurd (omega arith)
-    sides (suc w) zero i j = absurd (omega arith)
-    sides (suc w) (suc h) i j = omega arith
+-- so it is at most the sum of 2·(W+H) over the list: the seams, where two rectangles abut, do not count
+pub rule-edge-seams : (ps : List Point) → Accepted ps → edgeLength ps ≤ sum edgeOf (ruleList ps)
+rule-edge-seams ps acc =
+    let e : unitSides (λ a b. odd (holds a b) (ruleList ps)) ≡ edgeLength ps = ap unitSides (marks-held ps acc) ∙ sym (rule-edge ps acc) in
+    let s : sum (λ r. unitSides (λ a b. holds a b r)) (ruleList ps) ≡ sum edgeOf (ruleList ps) = sum-cong _ edgeOf (ruleList ps) (λ r m. sides-hold r (rule-rects ps acc .solid r m) (rule-rects ps acc .range r m)) in
+    omega (arith, sides-odd (ruleList ps))
 
-edges-areas : (rs : List Rect) → ((r : Rect) → In r rs → flat r ≡ false) → sum edgeOf rs ≤ 4 * sum areaOf rs
-unfolding sum
-edges-areas [] h = omega arith
-edges-areas (r ∷ rs) h = let i = edges-areas rs (λ s n. h s (tail n)) in let j = edge-area r (h r (head refl)) in omega arith
-
-pub rule-edge-fits : (ps : List Point) → Accepted ps → sum edgeOf (ruleList ps) < 2 ^ 64
-rule-edge-fits ps acc = omega (arith, rule-area-most ps acc, edges-areas (ruleList ps) (rule-rects ps acc .solid))
+-- for one rectangle it is 2·(W+H)
+pub rule-edge-one : (ps : List Point) → Accepted ps → (r : Rect) → ruleList ps ≡ r ∷ [] → edgeLength ps ≡ edgeOf r
+unfolding odd
+rule-edge-one ps acc r e =
+    let h = rw e at (rule-rects ps acc) in
+    let alone : marks ps ≡ (λ a b. holds a b r) = sym (marks-held ps acc) ∙ rw e (fun-ext (λ a. fun-ext (λ b. xor-false (holds a b r)))) in
+    rule-edge ps acc ∙ ap unitSides alone ∙ sides-hold r (h .solid r (head refl)) (h .range r (head refl))

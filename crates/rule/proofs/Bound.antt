@@ -12,13 +12,14 @@ use lib.IntN.{ℤ}
 use lib.Signed.{ltZ}
 use Rattle.plane.specs.declared.Point.{Point}
 use Rattle.plane.specs.declared.Rect.{Rect}
-use Rattle.plane.specs.Lists.{bit, any, count, sum, keep}
-use Rattle.plane.specs.Words.{eqZ, onRow}
+use Rattle.plane.specs.Lists.{bit, any, count, sum}
+use Rattle.plane.specs.Words.{eqZ, different, onRow}
 use Rattle.plane.proofs.Order.{order, eqZ-is, eqZ-refl}
 use Rattle.plane.proofs.Bools.{even-half, isOdd}
 use Rattle.plane.proofs.Sums.{any-find, any-in, count-find, count-less, count-length, sum-most, sum-length}
 use Rattle.plane.proofs.Parity.{odd-sum, odd-cong}
-use Rattle.rule.specs.Rule.{toggleFour, step, run, leftAfter, enough, ruleList, different, rowsOf, rowCount, Picked}
+use Rattle.plane.proofs.Different.{different-has, different-few}
+use Rattle.rule.specs.Rule.{toggleFour, step, run, leftAfter, enough, ruleList, rowsOf, rowCount, Picked}
 use Rattle.rule.specs.Rows.{Accepted}
 use Rattle.rule.proofs.Picks.{level, higher, picks}
 use Rattle.rule.proofs.Inside.{even-by-rows}
@@ -26,33 +27,7 @@ use Rattle.rule.proofs.Steps.{sum-step, step-all, step-keeps-accepted, 
 
 -- ---- The different rows
 
--- each number of a list is once among the different ones, and no other is
-pub different-once : (z : ℤ) (zs : List ℤ) → count (eqZ z) (different zs) ≡ bit (any (eqZ z) zs)
-unfolding count any different
-different-once z [] = refl
-different-once z (y ∷ ys) = go (any (eqZ y) ys) refl (eqZ z y) refl (different-once z ys)
-  where
-    go : (b : Bool) → any (eqZ y) ys ≡ b → (c : Bool) → eqZ z y ≡ c → count (eqZ z) (different ys) ≡ bit (any (eqZ z) ys) → count (eqZ z) (keep (not b) y (different ys)) ≡ bit (c || any (eqZ z) ys)
-    go true e true d h = h ∙ ap bit (ap (λ v. any (eqZ v) ys) (eqZ-is z y d) ∙ e)
-    go true e false d h = h
-    go false e true d h = rw (d, h ∙ ap bit (ap (λ v. any (eqZ v) ys) (eqZ-is z y d) ∙ e))
-    go false e false d h = rw d h
-
-different-has : (z : ℤ) (zs : List ℤ) → any (eqZ z) zs ≡ true → any (eqZ z) (different zs) ≡ true
-different-has z zs e =
-    let one : count (eqZ z) (different zs) ≡ 1 = different-once z zs ∙ ap bit e in
-    let r = count-find (eqZ z) (different zs) (omega arith) in
-    any-in (eqZ z) (r .1) (r .2)
-
-different-few : (zs : List ℤ) → length (different zs) ≤ length zs
-unfolding different
-different-few [] = omega arith
-different-few (z ∷ zs) = go (any (eqZ z) zs) (different-few zs)
-  where
-    go : (b : Bool) → length (different zs) ≤ length zs → length (keep (not b) z (different zs)) ≤ suc (length zs)
-    go true h = omega arith
-    go false h = omega arith
-
+-- a point's row is one of the rows
 rows-in : {q : Point} {ps : List Point} → In q ps → In (q .y) (rowsOf ps)
 rows-in {ps = p ∷ ps} (head e) = head (ap (λ (r : Point). r .y) e)
 rows-in {ps = p ∷ ps} (tail n) = tail (rows-in n)

@@ -1,9 +1,12 @@
--- Cases A to L, and the paper's stop row on B: the definitions give what document 01 says, line for line, as the checker computes.
+-- Cases A to L, and the paper's stop row on B: the definitions give what document 01 says, and of the edge request 1, line for line, as the checker
+-- computes.
 use mathlib.Core.Path.{_≡_, refl}
 use mathlib.Core.Bool.{xor}
 use mathlib.Core.List.{map}
 use Rattle.plane.specs.Lists.{any, odd, only, sum}
-use Rattle.plane.specs.Words.{eqZ, inRange, pointsOf, flatPoints, pointInRange, same, onRow, inColumn, before, insert, inOrder, foursOf, rectsOf, flatRects, rectInRange, flat, cornersOf, areaOf, edgeOf}
+use Rattle.plane.specs.Words.{eqZ, different, inRange, pointsOf, flatPoints, pointInRange, same, onRow, inColumn, before, insert, inOrder, foursOf, rectsOf, flatRects, rectInRange, flat, cornersOf, areaOf}
+use Rattle.plane.specs.Sorted.{insertBy, sortedBy}
+use Rattle.plane.specs.Edge.{pairs, inPairs, line, lineEdge, edgeLength}
 use Rattle.entry.specs.Checks.{firstFrom, judged, verdict}
 use Rattle.rule.specs.Rule.{firstOf, pickK, rightOf, pickL, over, leftOf, stops, stopper, pickM, rectOf, placeOf, remove, add, toggle, toggleFour, takeRect, step, run, ruleList}
 use Rattle.rule.specs.Back.{isCorner, corners, oddCorner, backList}
@@ -15,7 +18,8 @@ use Rattle.rule.specs.Cases.{paperM, paperStep, paperList, gives, cases}
 use Rattle.rule.specs.Rows.{pointChecks}
 
 pub cases-hold : map (λ line. gives (line .asked)) cases ≡ map (λ line. line .says) cases
-unfolding xor any odd only sum eqZ inRange pointsOf flatPoints pointInRange same onRow inColumn before insert inOrder foursOf rectsOf flatRects rectInRange flat cornersOf areaOf edgeOf
+unfolding xor any odd only sum eqZ different inRange pointsOf flatPoints pointInRange same onRow inColumn before insert inOrder foursOf rectsOf flatRects rectInRange flat cornersOf areaOf
+    insertBy sortedBy pairs inPairs line lineEdge edgeLength
     firstOf pickK rightOf pickL over leftOf stops stopper pickM rectOf placeOf remove add toggle toggleFour takeRect step run ruleList
     isCorner corners oddCorner backList pointChecks inputChecks forwardChecks backwardChecks stepChecks firstFrom judged verdict
     padded workOf forwardAnswer forwardOut forwardWork stepAnswer stepWork paperM paperStep paperList gives cases

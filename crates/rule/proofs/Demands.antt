@@ -2,14 +2,15 @@
 -- directions one after the other.
 use mathlib.Core.Path.{_≡_, refl, ap, _∙_}
 use mathlib.Core.Logic.{_↔_}
-use Prim.Native.Nat.{ℕ, _*_, _/_, _≤_, _<_, _^_}
+use Prim.Native.Nat.{ℕ, _*_, _/_, _≤_}
 use native.Mathlib.Omega.{arith}
 use mathlib.Core.List.{List, _++_}
 use lib.ListN.{length, drop}
 use lib.IntN.{ℤ}
 use Rattle.plane.specs.declared.Point.{Point}
 use Rattle.plane.specs.Lists.{bit, count, odd}
-use Rattle.plane.specs.Words.{marks, holds, cells, pointsOf, flatPoints, rectsOf, flatRects, inOrder, rectSize, mostPoints, mostRects}
+use Rattle.plane.specs.Words.{rangeSize, marks, holds, cells, pointsOf, flatPoints, rectsOf, flatRects, inOrder, rectSize, mostPoints, mostRects}
+use Rattle.plane.specs.Edge.{unitSides}
 use Rattle.plane.proofs.Arrays.{length-points, points-flat, length-flat-points, rects-flat, length-flat-rects}
 use Rattle.plane.proofs.Rising.{inOrder-length}
 use Rattle.entry.specs.Checks.{Verdict, accepted, refused, verdict}
@@ -23,7 +24,7 @@ use Rattle.rule.proofs.BackwardCall.{backward-accepts, backward-accepte
 use Rattle.rule.proofs.Cover.{rule-covers}
 use Rattle.rule.proofs.Canon.{rule-canon}
 use Rattle.rule.proofs.Rising.{rule-rects}
-use Rattle.rule.proofs.Area.{rule-area, rule-area-most, rule-edge-fits}
+use Rattle.rule.proofs.Area.{rule-area, rule-area-most, rule-edge, rule-edge-most}
 use Rattle.rule.proofs.Backward.{back-accepted}
 use Rattle.rule.proofs.RoundTrip.{forward-backward, backward-forward}
 
@@ -47,17 +48,22 @@ module _ (a : List ℤ) (work out : ℕ) (done : forwardAnswer a work out .answe
   unfolding forwardAnswer
   forward-area = rw forward-verdict (rule-area (pointsOf a) array-accepted)
 
+  -- the edge is the number of unit sides with a marked cell on exactly one side
+  pub forward-edge : forwardAnswer a work out .edge ≡ unitSides (marks (pointsOf a))
+  unfolding forwardAnswer
+  forward-edge = rw forward-verdict (rule-edge (pointsOf a) array-accepted)
+
 -- demand 3, second half: two arrays that forward accepts have equal lists exactly when they mark the same cells
 pub forward-canon : (a b : List ℤ) (wa oa wb ob : ℕ) → forwardAnswer a wa oa .answer ≡ 0 → forwardAnswer b wb ob .answer ≡ 0 → (forwardList a ≡ forwardList b) ↔ ((x y : ℤ) → marks (pointsOf a) x y ≡ marks (pointsOf b) x y)
 forward-canon a b wa oa wb ob da db = rule-canon (pointsOf a) (pointsOf b) (array-accepted a wa oa da) (array-accepted b wb ob db)
 
--- whatever is given, the area is at most 4·10^18 and the edge fits 64 bits
-pub forward-sums-fit : (a : List ℤ) (work out : ℕ) → (forwardAnswer a work out .area ≤ 4_000_000_000_000_000_000) × (forwardAnswer a work out .edge < 2 ^ 64)
+-- whatever is given, the area is at most 4·10^18 and the edge at most 4,096 · 2·10^9
+pub forward-sums-fit : (a : List ℤ) (work out : ℕ) → (forwardAnswer a work out .area ≤ 4_000_000_000_000_000_000) × (forwardAnswer a work out .edge ≤ mostPoints * rangeSize)
 unfolding forwardAnswer
 forward-sums-fit a work out = go (verdict (forwardChecks a work out)) (λ e. forward-accepted a work out .0 e)
   where
-    go : (v : Verdict) → (v ≡ accepted → ForwardAccepted a work out) → (forwardSays v (forwardSums a) .area ≤ 4_000_000_000_000_000_000) × (forwardSays v (forwardSums a) .edge < 2 ^ 64)
-    go accepted h = (rule-area-most (pointsOf a) (h refl .points), rule-edge-fits (pointsOf a) (h refl .points))
+    go : (v : Verdict) → (v ≡ accepted → ForwardAccepted a work out) → (forwardSays v (forwardSums a) .area ≤ 4_000_000_000_000_000_000) × (forwardSays v (forwardSums a) .edge ≤ mostPoints * rangeSize)
+    go accepted h = let c = h refl in (rule-area-most (pointsOf a) (c .points), omega (arith, rule-edge-most (pointsOf a) (c .points), length-points a, c .few))
     go (refused k p) h = (omega arith, omega arith)
 
 -- ---- Forward and then backward

@@ -5,15 +5,16 @@ use Prim.Native.Nat.{ℕ, _*_, _%_, _≤_, _<_}
 use native.Mathlib.Omega.{arith}
 use mathlib.Core.Bool.{true, false}
 use mathlib.Core.List.{List, [], _∷_, List·Memᴰ as In}
+use lib.ListN.{length}
 use lib.Dec.{eqb}
 use borrow.Author.Tests.{ltb-false, le-ltb, eqb-true, eqb-false, eq-eqb, ne-eqb, not-false}
 use Rattle.plane.specs.declared.Point.{Point}
 use Rattle.plane.specs.declared.Rect.{Rect}
-use Rattle.plane.specs.Words.{origin, pointInRange, rectInRange, flat}
+use Rattle.plane.specs.Words.{origin, mostPoints, pointInRange, rectInRange, flat}
 use Rattle.plane.proofs.Places.{at-every-place, all-pass, rows-even, columns-even, once-exactly}
 use Rattle.entry.specs.Checks.{accepted, verdict}
 use Rattle.entry.proofs.Verdicts.{Clear, AllClear, accepted-clear}
-use Rattle.rule.specs.Rows.{LENGTH, MANY, WORK, RANGE, RANGE-rects, ROOM, FLAT, DRAINED, pointChecks, Accepted, AcceptedRects}
+use Rattle.rule.specs.Rows.{LENGTH, MANY, WORK, RANGE, RANGE-rects, ROOM, FLAT, DRAINED, pointChecks, fewChecks, Accepted, AcceptedRects}
 
 -- ---- Rows of the whole
 
@@ -52,6 +53,13 @@ points-clear ps = (
 -- the checks of points accept exactly the points in range, none twice, with every row and every column even
 pub accepted-points : (ps : List Point) → (verdict (pointChecks ps) ≡ accepted) ↔ Accepted ps
 accepted-points ps = Iff·trans (accepted-clear (pointChecks ps)) (points-clear ps)
+
+-- and those of no more points than are taken
+pub accepted-few : (ps : List Point) → (verdict (fewChecks ps) ≡ accepted) ↔ ((length ps ≤ mostPoints) × Accepted ps)
+unfolding fewChecks
+accepted-few ps =
+    let few = many-clear mostPoints (length ps) in
+    Iff·trans (accepted-clear (fewChecks ps)) (λ h. (few .0 (h .0), points-clear ps .0 (h .1)), λ c. (few .1 (c .0), points-clear ps .1 (c .1)))
 
 pub rects-clear : (rs : List Rect) → AllClear (FLAT rs ∷ RANGE-rects rs ∷ []) ↔ AcceptedRects rs
 rects-clear rs = (λ h. record { solid = solid-at .0 (h .0); range = range-at .0 (h .1 .0) }, λ c. (solid-at .1 (c .solid), (range-at .1 (c .range), tt)))

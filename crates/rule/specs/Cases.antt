@@ -118,7 +118,7 @@ listL = map pos (0 ∷ 0 ∷ 1 ∷ 1 ∷ 0 ∷ 0 ∷ 1 ∷ 1 ∷ [])
 
 -- ---- The table
 
--- a line: what is asked, and what document 01 says
+-- a line: what is asked, and what document 01 says, the edge as request 1 has it
 pub record Case : Type 0 where
   pub asked : Asked
   pub says : Said
@@ -138,12 +138,12 @@ cases =
     record { asked = forward plateA 2; says = done 4 1 1 4 (map pos (0 ∷ 0 ∷ 1 ∷ 1 ∷ []) ++ sevens 4) }
     ∷ record { asked = oneStep plateA; says = record { numbers = map pos (0 ∷ 0 ∷ 0 ∷ 0 ∷ 1 ∷ 1 ∷ 0 ∷ []); out = []; work = zeros 8 } }
     -- B, and the paper's stop row on it
-    ∷ record { asked = forward plateB 3; says = done 10 3 26 36 listB }
+    ∷ record { asked = forward plateB 3; says = done 10 3 26 26 listB }
     ∷ record { asked = paper plateB; says = record { numbers = pos 42 ∷ []; out = map pos (0 ∷ 0 ∷ 4 ∷ 3 ∷ 4 ∷ 1 ∷ 4 ∷ 4 ∷ 1 ∷ 3 ∷ 7 ∷ 2 ∷ []); work = [] } }
     -- C
     ∷ record { asked = forward plateC 4; says = done 8 4 20 36 (map pos (3 ∷ 1 ∷ 2 ∷ 1 ∷ 0 ∷ 2 ∷ 3 ∷ 2 ∷ 5 ∷ 2 ∷ 5 ∷ 2 ∷ 3 ∷ 4 ∷ 2 ∷ 1 ∷ [])) }
     -- D, and with room for 3
-    ∷ record { asked = forward plateD 4; says = done 8 4 12 32 (map pos (0 ∷ 0 ∷ 4 ∷ 1 ∷ 0 ∷ 1 ∷ 1 ∷ 3 ∷ 3 ∷ 1 ∷ 1 ∷ 2 ∷ 1 ∷ 3 ∷ 3 ∷ 1 ∷ [])) }
+    ∷ record { asked = forward plateD 4; says = done 8 4 12 24 (map pos (0 ∷ 0 ∷ 4 ∷ 1 ∷ 0 ∷ 1 ∷ 1 ∷ 3 ∷ 3 ∷ 1 ∷ 1 ∷ 2 ∷ 1 ∷ 3 ∷ 3 ∷ 1 ∷ [])) }
     ∷ record { asked = forward plateD 3; says = refuses 8 4 (sevens 12) (zeros 16) }
     -- E, and one step of it
     ∷ record { asked = forward plateE 2; says = done 6 2 2 8 (map pos (0 ∷ 0 ∷ 1 ∷ 1 ∷ 1 ∷ 1 ∷ 1 ∷ 1 ∷ [])) }

@@ -9,7 +9,8 @@ use lib.IntN.{ℤ}
 use lib.Dec.{eqb}
 use Rattle.plane.specs.declared.Rect.{Rect}
 use Rattle.plane.specs.Lists.{sum}
-use Rattle.plane.specs.Words.{mostPoints, pointsOf, rectSize, rectsOf, flatRects, areaOf, edgeOf}
+use Rattle.plane.specs.Words.{mostPoints, pointsOf, rectSize, rectsOf, flatRects, areaOf}
+use Rattle.plane.specs.Edge.{edgeLength}
 use Rattle.entry.specs.Checks.{Check, Verdict, accepted, refused, verdict}
 use Rattle.entry.specs.Entry.{ifAccepted, numberIn, placeIn, written}
 use Rattle.rule.specs.declared.ForwardAnswer.{ForwardAnswer}
@@ -21,19 +22,19 @@ use Rattle.rule.specs.Working.{workOf}
 abbrev pub forwardList : (a : List ℤ) → List Rect
 forwardList a = ruleList (pointsOf a)
 
--- what is said of a list: how many rectangles, their area and their edge
+-- what is said beside a list: how many rectangles, their area, and the edge of the points
 pub record Sums : Type 0 where
   pub count : ℕ
   pub area : ℕ
   pub edge : ℕ
 
--- of these rectangles
-abbrev pub sumsOf : List Rect → Sums
-sumsOf rs = record { count = length rs; area = sum areaOf rs; edge = sum edgeOf rs }
+-- of these rectangles, and with this edge
+abbrev pub sumsOf : List Rect → (edge : ℕ) → Sums
+sumsOf rs edge = record { count = length rs; area = sum areaOf rs; edge = edge }
 
 -- forward's, of the array
 abbrev pub forwardSums : (a : List ℤ) → Sums
-forwardSums a = sumsOf (forwardList a)
+forwardSums a = sumsOf (forwardList a) (edgeLength (pointsOf a))
 
 -- what it checks before the list is known: 1, 2, 3, 4, 5, 6, 7
 unfoldable pub inputChecks : (a : List ℤ) (work : ℕ) → List Check

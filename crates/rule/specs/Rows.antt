@@ -9,7 +9,8 @@ use lib.Dec.{ltb, eqb}
 use Rattle.plane.specs.declared.Point.{Point}
 use Rattle.plane.specs.declared.Rect.{Rect}
 use Rattle.plane.specs.Lists.{any, odd, count}
-use Rattle.plane.specs.Words.{pointAt, same, onRow, inColumn, pointInRange, rectAt, rectInRange, flat}
+use Rattle.plane.specs.Words.{mostPoints, pointAt, same, onRow, inColumn, pointInRange, rectAt, rectInRange, flat}
+use Rattle.plane.specs.Edge.{edgeLength}
 use Rattle.entry.specs.declared.Counted.{Counted}
 use Rattle.entry.specs.Checks.{Check, whole, each, needs, verdict}
 use Rattle.entry.specs.Entry.{counted}
@@ -68,9 +69,13 @@ TEXT lines bad = each 11 lines bad
 unfoldable pub pointChecks : List Point → List Check
 pointChecks ps = RANGE ps ∷ REPEATED ps ∷ ROW ps ∷ COLUMN ps ∷ []
 
--- how many points there are, or what is refused of them
+-- the same of points that are not more than either takes: 2, and then 4, 5, 6, 7
+unfoldable pub fewChecks : List Point → List Check
+fewChecks ps = MANY mostPoints (length ps) ∷ pointChecks ps
+
+-- the edge of the points, or what is refused of them
 abbrev pub pointsSay : List Point → Counted
-pointsSay ps = counted (verdict (pointChecks ps)) (length ps)
+pointsSay ps = counted (verdict (fewChecks ps)) (edgeLength ps)
 
 -- ---- What is accepted
 

@@ -1,7 +1,7 @@
 -- The forward rule of document 01: K, L, the amended stop row M, the rectangle, the four toggles, and the list.
 use Prim.Native.Nat.{ℕ, zero, suc, _-_, _*_}
 use mathlib.Core.Path.{_≡_}
-use mathlib.Core.Bool.{Bool, true, false, not, cond, _&&_, _||_}
+use mathlib.Core.Bool.{Bool, true, false, cond, _&&_, _||_}
 use mathlib.Core.List.{List, [], _∷_, _++_, map, List·Memᴰ as In}
 use mathlib.Core.Option.{Option, none, some, Option·getD}
 use lib.ListN.{length, getD, take, set}
@@ -9,8 +9,8 @@ use lib.IntN.{ℤ, _-ℤ_}
 use lib.Signed.{leZ, ltZ}
 use Rattle.plane.specs.declared.Point.{Point}
 use Rattle.plane.specs.declared.Rect.{Rect}
-use Rattle.plane.specs.Lists.{any, odd, keep}
-use Rattle.plane.specs.Words.{origin, eqZ, same, onRow, before}
+use Rattle.plane.specs.Lists.{any, odd}
+use Rattle.plane.specs.Words.{different, origin, same, onRow, before}
 
 -- ---- K, L and M
 
@@ -152,11 +152,6 @@ unfoldable pub ruleList : List Point → List Rect
 ruleList ps = run step (enough ps) ps
 
 -- ---- How many rows
-
--- the numbers of a list, each once
-unfoldable pub different : List ℤ → List ℤ
-different [] = []
-different (z ∷ zs) = keep (not (any (eqZ z) zs)) z (different zs)
 
 -- the rows of points
 abbrev pub rowsOf : List Point → List ℤ

@@ -11,7 +11,7 @@ use borrow.Author.Tests.{eqb-true, eq-eqb}
 use Rattle.plane.specs.declared.Point.{Point}
 use Rattle.plane.specs.declared.Rect.{Rect}
 use Rattle.plane.specs.Lists.{bit, sum, sumBelow, atStart}
-use Rattle.plane.specs.Words.{eqZ, rectSize, flatRects, flat, areaOf, edgeOf}
+use Rattle.plane.specs.Words.{eqZ, rectSize, flatRects, flat, areaOf}
 use Rattle.plane.proofs.Bools.{clash}
 use Rattle.plane.proofs.Sums.{sum-length, count-sum, count-find, below-grows, below-has, below-list}
 use Rattle.plane.proofs.Places.{stretch-none}
@@ -39,14 +39,13 @@ Output false ps finished out₀ out = out ≡ out₀
 
 -- a sweep is under way; the numbers of the rectangles that it has given and of the live ones are those of all that have begun; and those
 -- given are counted, summed, and put if asked for
-pub record Making (qs : List Point) (writes : Bool) (work₀ rects₀ work rects : List ℤ) (z : Sweep) (made area edge : ℕ) : Type 0 where
+pub record Making (qs : List Point) (writes : Bool) (work₀ rects₀ work rects : List ℤ) (z : Sweep) (made area : ℕ) : Type 0 where
   pub underway : Underway qs work z far
   pub kept : KeptPast (2 * length qs) work₀ work
   pub finished : List ℕ
   pub tally : (w : ℕ → ℕ) → sum w finished + liveSum qs work z w ≡ sumBelow (z .given) w
   pub counted : made ≡ length finished
   pub areas : area ≡ sum (byNumber qs areaOf) finished
-  pub edges : edge ≡ sum (byNumber qs edgeOf) finished
   pub room : writes ≡ true → rectSize * length (ruleList qs) ≤ length rects₀
   pub output : Output writes qs finished rects₀ rects
 
@@ -74,7 +73,7 @@ starts-underway {qs} {work} r = record {
 }
 
 -- and none are given
-pub starts-making : {qs : List Point} {work rects : List ℤ} {n : ℕ} {writes : Bool} {z : Sweep} → Ready qs (length work) → length qs ≡ n → (writes ≡ true → rectSize * length (ruleList qs) ≤ length rects) → z ≡ startOf (n / 2) → Making qs writes work rects work rects z 0 0 0
+pub starts-making : {qs : List Point} {work rects : List ℤ} {n : ℕ} {writes : Bool} {z : Sweep} → Ready qs (length work) → length qs ≡ n → (writes ≡ true → rectSize * length (ruleList qs) ≤ length rects) → z ≡ startOf (n / 2) → Making qs writes work rects work rects z 0 0
 unfolding sum sumBelow
 starts-making {qs} {work} {rects} {writes = writes} {z = z} r many room s =
     let at-start : z ≡ startOf (roomFor qs) = rw many s in
@@ -85,7 +84,6 @@ starts-making {qs} {work} {rects} {writes = writes} {z = z} r many room s =
       tally = λ w. rw (none-ahead qs work);
       counted = refl;
       areas = refl;
-      edges = refl;
       room = room;
       output = go writes;
     })
@@ -100,7 +98,7 @@ starts-making {qs} {work} {rects} {writes = writes} {z = z} r many room s =
 sum-within : {qs : List Point} {work : List ℤ} {z : Sweep} (finished : List ℕ) (f : Rect → ℕ) → Underway qs work z far → (let w = byNumber qs f in sum w finished + liveSum qs work z w ≡ sumBelow (z .given) w) → sum (byNumber qs f) finished ≤ sum f (ruleList qs)
 sum-within {qs} finished f u e = omega (arith, below-grows (byNumber qs f) (u .sweeping .given-few), by-list qs (u .ready .points) f)
 
-module _ {qs : List Point} {writes : Bool} {work₀ rects₀ work rects : List ℤ} {z : Sweep} {made area edge : ℕ} (m : Making qs writes work₀ rects₀ work rects z made area edge) where
+module _ {qs : List Point} {writes : Bool} {work₀ rects₀ work rects : List ℤ} {z : Sweep} {made area : ℕ} (m : Making qs writes work₀ rects₀ work rects z made area) where
   -- no more are given than the list has
   pub made-fits : made ≤ mostBegun
   made-fits =
@@ -116,7 +114,7 @@ module _ {qs : List Point} {writes : Bool} {work₀ rects₀ work rects : List �
       go false o = ap length o
 
   -- a move that goes on
-  pub goes-on : {work′ : List ℤ} {at : Sweep} → GoesOn qs z work at work′ → Making qs writes work₀ rects₀ work′ rects at made area edge
+  pub goes-on : {work′ : List ℤ} {at : Sweep} → GoesOn qs z work at work′ → Making qs writes work₀ rects₀ work′ rects at made area
   goes-on g = record {
     underway = g .underway;
     kept = kept-on (m .kept) (g .kept);
@@ -124,7 +122,6 @@ module _ {qs : List Point} {writes : Bool} {work₀ rects₀ work rects : List �
     tally = λ w. omega (arith, m .tally w, g .balance w);
     counted = m .counted;
     areas = m .areas;
-    edges = m .edges;
     room = m .room;
     output = m .output;
   }
@@ -163,23 +160,22 @@ module _ {qs : List Point} {writes : Bool} {work₀ rects₀ work rects : List �
         go false e o = o
 
     -- a move that gives a rectangle
-    pub gives : {rects′ : List ℤ} {s t : ℕ} → Output writes qs (place ∷ m .finished) rects₀ rects′ → s ≡ areaOf rect → t ≡ edgeOf rect → Making qs writes work₀ rects₀ work′ rects′ at (made + 1) (area + s) (edge + t)
+    pub gives : {rects′ : List ℤ} {s : ℕ} → Output writes qs (place ∷ m .finished) rects₀ rects′ → s ≡ areaOf rect → Making qs writes work₀ rects₀ work′ rects′ at (made + 1) (area + s)
     unfolding sum
-    gives o s t = record {
+    gives o s = record {
       underway = g .underway;
       kept = kept-on (m .kept) (g .kept);
       finished = place ∷ m .finished;
       tally = given-tally;
       counted = omega (arith, m .counted);
       areas = omega (arith, m .areas, ap areaOf (g .rect-is));
-      edges = omega (arith, m .edges, ap edgeOf (g .rect-is));
       room = m .room;
       output = o;
     }
 
 -- ---- All are made
 
-module _ {qs : List Point} {writes : Bool} {work₀ rects₀ work rects : List ℤ} {z : Sweep} {made area edge : ℕ} (m : Making qs writes work₀ rects₀ work rects z made area edge) {work′ : List ℤ} (all : AllGiven qs z work work′) where
+module _ {qs : List Point} {writes : Bool} {work₀ rects₀ work rects : List ℤ} {z : Sweep} {made area : ℕ} (m : Making qs writes work₀ rects₀ work rects z made area) {work′ : List ℤ} (all : AllGiven qs z work work′) where
   -- every weight has its sum over all the numbers
   all-summed : (w : ℕ → ℕ) → sum w (m .finished) ≡ sumBelow (length (ruleList qs)) w
   unfolding sum
@@ -199,12 +195,11 @@ module _ {qs : List Point} {writes : Bool} {work₀ rects₀ work rects : List �
       rw (eqb-true i (r .0) (r .2)) (r .1)
 
   -- so the list is made
-  pub all-made : Swept qs writes work₀ rects₀ (record { answer = 0; place = 0; count = made; area = area; edge = edge }) work′ rects
-  all-made =
+  pub all-made : (edge : ℕ) → Swept qs writes edge work₀ rects₀ (record { answer = 0; place = 0; count = made; area = area; edge = edge }) work′ rects
+  all-made edge =
       let count : made ≡ length (ruleList qs) = m .counted ∙ sym (sum-length (m .finished)) ∙ list-summed (λ r. 1) ∙ sum-length (ruleList qs) in
       let areas : area ≡ sum areaOf (ruleList qs) = m .areas ∙ list-summed areaOf in
-      let edges : edge ≡ sum edgeOf (ruleList qs) = m .edges ∙ list-summed edgeOf in
-      record { kept = kept-on (m .kept) (all .kept); answer = λ i. record { answer = 0; place = 0; count = count i; area = areas i; edge = edges i }; output = go writes refl (m .output) }
+      record { kept = kept-on (m .kept) (all .kept); answer = λ i. record { answer = 0; place = 0; count = count i; area = areas i; edge = edge }; output = go writes refl (m .output) }
     where
       go : (b : Bool) → writes ≡ b → Output b qs (m .finished) rects₀ rects → rects ≡ cond b (atStart (flatRects (ruleList qs)) rects₀) rects₀
       go true e o = puts-all (m .room e) o (m .underway .ready .points) all-there

@@ -291,10 +291,10 @@ Advanced qs z before (Onward at) after = GoesOn qs z before at after
 Advanced qs z before (Rectangle rect place at) after = Gives qs z before rect place at after
 Advanced qs z before (Refused k p) after = (moveNumber (Refused k p) ≡ 10) × (movePlace (Refused k p) ≡ 0) × AllGiven qs z before after
 
--- the list is counted and summed, and written if asked for
-pub record Swept (qs : List Point) (writes : Bool) (work before : List ℤ) (r : ForwardAnswer) (work-after after : List ℤ) : Type 0 where
+-- the list is counted and summed, with an edge that is told, and written if asked for
+pub record Swept (qs : List Point) (writes : Bool) (edge : ℕ) (work before : List ℤ) (r : ForwardAnswer) (work-after after : List ℤ) : Type 0 where
   pub kept : KeptPast (2 * length qs) work work-after
-  pub answer : r ≡ forwardSays accepted (sumsOf (ruleList qs))
+  pub answer : r ≡ forwardSays accepted (sumsOf (ruleList qs) edge)
   pub output : after ≡ cond writes (atStart (flatRects (ruleList qs)) before) before
 
 -- ---- Checks

@@ -12,7 +12,8 @@ ghost use lib.ListN.{length};
 ghost use lib.IntN.{pos, _-ℤ_};
 ghost use lib.Signed.{ltZ, leZ};
 ghost use Prim.Native.Nat.{_+_, _*_, _<_, _≤_};
-ghost use Rattle.plane.specs.Words.{eqZ, pointsOf, rectSize, flat, areaOf, edgeOf, mostPoints};
+ghost use Rattle.plane.specs.Words.{eqZ, pointsOf, rectSize, flat, areaOf, mostPoints};
+ghost use Rattle.plane.specs.Edge.{edgeLength};
 ghost use Rattle.entry.specs.Checks.{verdict};
 ghost use Rattle.entry.specs.Entry.{counted};
 ghost use Rattle.rule.specs.Rule.{ruleList};
@@ -453,15 +454,6 @@ fn area_of(r: Rect) -> u64
     (w as u64) * (h as u64)
 }
 
-fn edge_of(r: Rect) -> u64
-    requires { ⌜ flat r ≡ false ⌝ }
-    ensures { λ u. ⌜ u ≡ edgeOf r ⌝ }
-{
-    let w = r.w;
-    let h = r.h;
-    2 * ((w as u64) + (h as u64))
-}
-
 // An answer that is a list.
 fn whole_list(count: usize, area: u64, edge: u64) -> ForwardAnswer
     ensures { λ r. ⌜ r ≡ record { answer = 0; place = 0; count = count; area = area; edge = edge } ⌝ }
@@ -475,23 +467,23 @@ fn whole_list(count: usize, area: u64, edge: u64) -> ForwardAnswer
     }
 }
 
-// Moves until one is refused, sums the rectangles' areas and edges, and writes them if asked to. DRAINED gives the list; any other refusal
-// would be passed on as it is, and is proved not to come.
+// Moves until one is refused, sums the rectangles' areas, and writes them if asked to. DRAINED gives the list, with the edge that is told; any
+// other refusal would be passed on as it is, and is proved not to come.
 fn sweep_all(
     points: &[i32],
     order: &[u16],
     work: &mut [i32],
     rects: &mut [i32],
     writes: bool,
+    edge: u64,
 ) -> ForwardAnswer
     requires { ⌜ Ready (sweptPoints (now points) (now order)) (length (now work)) ⌝ }
     requires { ⌜ (writes ≡ true → rectSize * length (ruleList (sweptPoints (now points) (now order))) ≤ length (now rects)) ⌝ }
-    ensures { λ r. ⌜ Swept (sweptPoints (now (points .entry)) (now (order .entry))) writes (now (work .entry)) (now (rects .entry)) r (now (work .exit)) (now (rects .exit)) ⌝ }
+    ensures { λ r. ⌜ Swept (sweptPoints (now (points .entry)) (now (order .entry))) writes edge (now (work .entry)) (now (rects .entry)) r (now (work .exit)) (now (rects .exit)) ⌝ }
 {
     let mut z = start(order.len() / 2);
     let mut made: usize = 0;
     let mut area: u64 = 0;
-    let mut edge: u64 = 0;
     loop {
         match advance(points, order, work, z) {
             Move::Onward { at } => {
@@ -502,7 +494,6 @@ fn sweep_all(
                     put_rect(rects, place, rect);
                 }
                 area += area_of(rect);
-                edge += edge_of(rect);
                 made += 1;
                 z = at;
             }
@@ -541,34 +532,37 @@ fn no_list(answer: u32, place: u64) -> ForwardAnswer
     }
 }
 
-// Forward of accepted points, for which those at these places stand: counts the rectangles, and writes only where all have room.
+// Forward of accepted points with this edge, for which those at these places stand: counts the rectangles, and writes only where all have room.
 fn count_then_write(
     points: &[i32],
     order: &[u16],
     work: &mut [i32],
     rects: &mut [i32],
+    edge: u64,
 ) -> ForwardAnswer
     requires { ⌜ ForwardAccepted (now points) (length (now work)) (rectSize * length (forwardList (now points))) ⌝ }
     requires { ⌜ StandFor (now points) (length (now work)) (now order) ⌝ }
+    requires { ⌜ edge ≡ edgeLength (pointsOf (now points)) ⌝ }
     ensures { λ r. ⌜ ForwardDone (now (points .entry)) (now (work .entry)) (now (rects .entry)) r (now (work .exit)) (now (rects .exit)) ⌝ }
 {
     let n = order.len();
-    let counted = sweep_all(points, order, work, rects, false);
+    let counted = sweep_all(points, order, work, rects, false, edge);
     let needed = counted.count;
     if rects.len() / RECT_SIZE < needed {
         zero_start(work, 2 * n);
         return no_list(ROOM, needed as u64);
     }
-    let done = sweep_all(points, order, work, rects, true);
+    let done = sweep_all(points, order, work, rects, true, edge);
     zero_start(work, 2 * n);
     done
 }
 
 // ---- Checks
 
-// Forward's checks before the room is known. Where nothing is refused, `order` begins with the places of the points in order.
+// The edge of the points, or what forward's checks before the room is known refuse. Where nothing is refused, `order` begins with the places of
+// the points in order.
 fn check_input(points: &[i32], work: usize, order: &mut [u16; MOST_POINTS]) -> Counted
-    ensures { λ r. ⌜ r ≡ counted (verdict (inputChecks (now (points .entry)) work)) (length (pointsOf (now (points .entry)))) ⌝ }
+    ensures { λ r. ⌜ r ≡ counted (verdict (inputChecks (now (points .entry)) work)) (edgeLength (pointsOf (now (points .entry)))) ⌝ }
     ensures { λ r. ⌜ Ordered (now (points .entry)) work (now (order .exit)) ⌝ }
 {
     let n = points.len() / 2;
@@ -586,8 +580,8 @@ fn check_input(points: &[i32], work: usize, order: &mut [u16; MOST_POINTS]) -> C
 
 // ---- The public function
 
-// The rectangles of the array's points, written to `rects`, with their count, area and edge; or a refusal, which leaves `rects` as it
-// was. `points` is only read; `work` needs two numbers for each point.
+// The rectangles of the array's points, written to `rects`, with their count, their area and the points' edge; or a refusal, which leaves
+// `rects` as it was. `points` is only read; `work` needs two numbers for each point.
 pub fn sweep_points(points: &[i32], work: &mut [i32], rects: &mut [i32]) -> ForwardAnswer
     ensures { λ r. ⌜ ForwardDone (now (points .entry)) (now (work .entry)) (now (rects .entry)) r (now (work .exit)) (now (rects .exit)) ⌝ }
 {
@@ -597,5 +591,5 @@ pub fn sweep_points(points: &[i32], work: &mut [i32], rects: &mut [i32]) -> Forw
         return no_list(checked.answer, checked.place);
     }
     let n = points.len() / 2;
-    count_then_write(points, &order[0..n], work, rects)
+    count_then_write(points, &order[0..n], work, rects, checked.count as u64)
 }

@@ -16,7 +16,7 @@ use Rattle.plane.specs.declared.Rect.{Rect}
 use Rattle.plane.specs.Words.{inRange, right, top, rectInRange, pointsOf}
 use Rattle.plane.proofs.Bools.{and-four}
 use Rattle.plane.proofs.Order.{add-up, mag-most, range-up, range-most}
-use Rattle.plane.proofs.Arrays.{points-flat}
+use Rattle.plane.proofs.Arrays.{length-points, points-flat}
 use Rattle.entry.specs.Checks.{by-whole, FirstGiven, this, later, Verdict, accepted, refused, verdict}
 use Rattle.entry.proofs.Verdicts.{PlacesWithin, place-within, clear-exactly, refused-exactly}
 use Rattle.rule.specs.Rule.{ruleList}
@@ -25,7 +25,7 @@ use Rattle.rule.specs.ForwardCall.{forwardChecks, ForwardAccepted, forwardList,
 use Rattle.rule.proofs.Rows.{many-clear}
 use Rattle.rule.proofs.Bound.{rule-most}
 use Rattle.rule.proofs.Rising.{rule-rects}
-use Rattle.rule.proofs.Area.{rule-area-most, rule-edge-fits}
+use Rattle.rule.proofs.Area.{rule-area-most, rule-edge-most}
 use Rattle.numerals.proofs.Printing.{decimal-length, signed-length}
 use Rattle.reading.specs.Lines.{Line, onto, linesOf, linePoint, withPoint, pointsIn}
 use Rattle.reading.specs.Reading.{pointsRead, textChecks}
@@ -67,7 +67,7 @@ pub list-fits : (a : List ℤ) (work : ℕ) → ForwardAccepted a work mostList 
 unfolding listLines
 list-fits a work c =
     let few : forwardSums a .count ≤ mostListed = c .room in
-    let sums = sums-length (forwardSums a) (omega arith) (omega (arith, rule-area-most (pointsOf a) (c .points))) (omega (arith, rule-edge-fits (pointsOf a) (c .points))) in
+    let sums = sums-length (forwardSums a) (omega arith) (omega (arith, rule-area-most (pointsOf a) (c .points))) (omega (arith, rule-edge-most (pointsOf a) (c .points), length-points a, c .few)) in
     let lines = rects-length (forwardList a) (rule-rects (pointsOf a) (c .points) .range) in
     simp length-append (omega arith)
 

@@ -2,8 +2,10 @@
 use mathlib.Core.Path.{_≡_, refl}
 use mathlib.Core.Bool.{xor}
 use mathlib.Core.List.{[]}
-use Rattle.plane.specs.Lists.{any, odd, sum}
-use Rattle.plane.specs.Words.{eqZ, inRange, pointsOf, flatPoints, pointInRange, same, onRow, inColumn, before, areaOf, edgeOf}
+use Rattle.plane.specs.Lists.{any, odd, only, sum}
+use Rattle.plane.specs.Words.{eqZ, different, inRange, pointsOf, flatPoints, pointInRange, same, onRow, inColumn, before, areaOf}
+use Rattle.plane.specs.Sorted.{insertBy, sortedBy}
+use Rattle.plane.specs.Edge.{pairs, inPairs, line, lineEdge, edgeLength}
 use Rattle.entry.specs.Checks.{firstFrom, judged, verdict}
 use Rattle.rule.specs.Rule.{firstOf, pickK, rightOf, pickL, over, leftOf, stops, stopper, pickM, rectOf, placeOf, remove, add, toggle, toggleFour, takeRect, step, run, ruleList}
 use Rattle.rule.specs.Rows.{pointChecks}
@@ -16,12 +18,13 @@ use Rattle.text.specs.Program.{programChecks, sumsLine, rectLine, rectLi
 
 -- no points
 pub empty-prints : programPrints [] ≡ ascii "rects 0 area 0 edge 0\n"
-unfolding sum pointsOf flatPoints run ruleList pointChecks inputChecks forwardChecks firstFrom judged verdict digitsOf decimal linesOf pointsIn textChecks programChecks sumsLine rectLines listLines programPrints
+unfolding sum different pointsOf flatPoints lineEdge edgeLength run ruleList pointChecks inputChecks forwardChecks firstFrom judged verdict digitsOf decimal linesOf pointsIn textChecks programChecks sumsLine rectLines listLines programPrints
 empty-prints = refl
 
--- case B
-pub case-b-prints : programPrints (ascii "0 0\n4 0\n4 1\n8 1\n8 3\n4 3\n4 5\n1 5\n1 3\n0 3\n") ≡ ascii "rects 3 area 26 edge 36\n0 0 4 3\n4 1 4 2\n1 3 3 2\n"
-unfolding xor any odd sum eqZ inRange pointsOf flatPoints pointInRange same onRow inColumn before areaOf edgeOf
+-- case B, with request 1's edge
+pub case-b-prints : programPrints (ascii "0 0\n4 0\n4 1\n8 1\n8 3\n4 3\n4 5\n1 5\n1 3\n0 3\n") ≡ ascii "rects 3 area 26 edge 26\n0 0 4 3\n4 1 4 2\n1 3 3 2\n"
+unfolding xor any odd only sum eqZ different inRange pointsOf flatPoints pointInRange same onRow inColumn before areaOf
+    insertBy sortedBy pairs inPairs line lineEdge edgeLength
     firstOf pickK rightOf pickL over leftOf stops stopper pickM rectOf placeOf remove add toggle toggleFour takeRect step run ruleList
     pointChecks inputChecks forwardChecks firstFrom judged verdict
     isDigit areDigits oneToTen valueAfter valueOf numberOf digitsOf decimal signed

@@ -1,20 +1,19 @@
 -- `sweep::check_input` meets its contract: each check refuses, or passes to the next.
-use Prim.Native.Nat.{ℕ, _/_}
+use Prim.Native.Nat.{ℕ, _≤_}
 use native.Mathlib.Omega.{arith}
-use mathlib.Core.Path.{_≡_, sym}
-use mathlib.Core.Bool.{false}
+use mathlib.Core.Path.{_≡_}
 use mathlib.Core.List.{List}
 use lib.ListN.{length}
 use lib.IntN.{ℤ}
 use borrow.Author.Needs.{needs}
 use borrow.Author.Tests.{lt-ltb, le-ltb, eq-eqb, ne-eqb}
-use Rattle.plane.specs.Words.{pointsOf}
+use Rattle.plane.specs.Words.{pointsOf, mostPoints}
 use Rattle.plane.proofs.Arrays.{length-points}
-use Rattle.ordering.proofs.Orders.{order-found}
 use Rattle.entry.specs.Checks.{refused, verdict}
 use Rattle.entry.proofs.Verdicts.{verdict-whole}
 use Rattle.rule.specs.ForwardCall.{inputChecks}
-use Rattle.rule.specs.Rows.{pointChecks}
+use Rattle.rule.specs.Rows.{fewChecks}
+use Rattle.checks.proofs.Kept.{ordered-found}
 use Rattle.sweep.specs.Inner.{Ordered}
 use Rattle.sweep.proofs.check_input.Statement.{statement}
 use Rattle.sweep.proofs.check_input.Tie as tie
@@ -47,13 +46,14 @@ returns-3 c =
     (rw v (c .refusal3 .ensures), none-asked (s .points .now) (s .work) _ v)
 
 returns-4 : tie.Need-returns-4
-unfolding inputChecks
+unfolding inputChecks fewChecks
 returns-4 c =
     let l = c .before .before in
     let s = l .before .before .before .args in
     let a = s .points .now in
-    let v : verdict (inputChecks a (s .work)) ≡ verdict (pointChecks (pointsOf a)) = simp (verdict-whole, eq-eqb _ _ (l .before .before .if1 .left), le-ltb _ _ (l .before .if2 .left), le-ltb _ _ (l .if3 .left)) in
-    (rw v (c .order-points .ensures .0), record { in-order = λ _. rw (c .order-points .ensures .1) (order-found false (pointsOf a) (length a / 2) _ (sym (length-points a)) (omega arith)) })
+    let few : length (pointsOf a) ≤ mostPoints = omega (arith, length-points a, l .before .if2 .left) in
+    let v : verdict (inputChecks a (s .work)) ≡ verdict (fewChecks (pointsOf a)) = simp (verdict-whole, eq-eqb _ _ (l .before .before .if1 .left), le-ltb _ _ (l .before .if2 .left), le-ltb _ _ (l .if3 .left), le-ltb mostPoints (length (pointsOf a)) few) in
+    (rw v (c .order-points .ensures .0), record { in-order = λ _. rw (c .order-points .ensures .1, ← length-points a) (ordered-found (pointsOf a) _ few) })
 
 pub check-input-spec : {M : Type 1} → statement M
 check-input-spec = tie.close (tie.spec (λ c κs. search needs) returns (λ c κs. search needs) returns-2 (λ c. search needs) (λ c κs. search needs) returns-3 (λ c κs. search needs) returns-4)

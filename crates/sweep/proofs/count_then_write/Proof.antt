@@ -29,21 +29,21 @@ rects s = forwardList (points s)
 
 -- the places are as many as the array's points
 many : (s : tie.Start) → length (s .args .order .now) ≡ length (points s) / 2
-many s = s .pre .1 .as-many
+many s = s .pre .1 .0 .as-many
 
 -- and so are the points that are swept
 swept : (s : tie.Start) → length (sweptPoints (points s) (s .args .order .now)) ≡ length (points s) / 2
 swept s = length-map (s .args .order .now) (pointAt (pointsOf (points s))) ∙ many s
 
 sweep-all-requires : tie.Need-sweep-all-requires
-sweep-all-requires c κs = (c .before .before .before .pre .1 .ready, λ e. clash e refl)
+sweep-all-requires c κs = (c .before .before .before .pre .1 .0 .ready, λ e. clash e refl)
 
 abbrev start-of : tie.After-sweep-all → tie.Start
 start-of d = d .before .before .before .before
 
 -- the count is the number of rectangles
 needed : (d : tie.After-sweep-all) → d .sweep-all .result .count ≡ length (rects (start-of d))
-needed d = ap (λ r. r .count) (d .sweep-all .ensures .answer) ∙ ap length (start-of d .pre .1 .same-list)
+needed d = ap (λ r. r .count) (d .sweep-all .ensures .answer) ∙ ap length (start-of d .pre .1 .0 .same-list)
 
 -- counting leaves the output as it was
 same-rects : (d : tie.After-sweep-all) → length (d .sweep-all .last .1 .1 .1 .0) ≡ length (start-of d .args .rects .now)
@@ -81,7 +81,7 @@ sweep-all-requires-2 c κs =
     let o = c .before .before in
     let d = counted o in
     let s = start-of d in
-    (rw (d .sweep-all .ensures .kept .same-length) (s .pre .1 .ready), λ _. rw (s .pre .1 .same-list) (omega (arith, has-room o, same-rects d)))
+    (rw (d .sweep-all .ensures .kept .same-length) (s .pre .1 .0 .ready), λ _. rw (s .pre .1 .0 .same-list) (omega (arith, has-room o, same-rects d)))
 
 abbrev room-of : tie.After-sweep-all2 → tie.Else1
 room-of e = e .before .before .before
@@ -106,9 +106,9 @@ returns-2 c =
     let s = start-of d in
     let v = forward-accepted (points s) (length (work s)) (length (s .args .rects .now)) .1 (accepted-with-room (s .pre .0) (has-room o)) in
     record {
-      answer = rw (v, ← s .pre .1 .same-list) (e .sweep-all2 .ensures .answer);
+      answer = rw (v, ← s .pre .1 .1, ← s .pre .1 .0 .same-list) (e .sweep-all2 .ensures .answer);
       working = rw v (z .zero-start2 .ensures ∙ kept-drained (swept s) (many s) (kept e));
-      output = rw (v, ← d .sweep-all .ensures .output, ← s .pre .1 .same-list) (e .sweep-all2 .ensures .output);
+      output = rw (v, ← d .sweep-all .ensures .output, ← s .pre .1 .0 .same-list) (e .sweep-all2 .ensures .output);
     }
 
 pub count-then-write-spec : {M : Type 1} → statement M

@@ -8,8 +8,8 @@ use lib.ListN.{length, length-map}
 use lib.IntN.{ℤ}
 use borrow.Author.Needs.{needs}
 use Rattle.plane.specs.declared.Point.{Point}
-use Rattle.plane.specs.Words.{pointsOf, flat, areaOf, edgeOf, pointAt}
-use Rattle.rule.proofs.Area.{rule-area-most, rule-edge-fits}
+use Rattle.plane.specs.Words.{pointsOf, flat, areaOf, pointAt}
+use Rattle.rule.proofs.Area.{rule-area-most}
 use Rattle.sweep.specs.Inner.{sweptPoints, toCome, GoesOn, Gives, AllGiven}
 use Rattle.sweep.proofs.Past.{kept-on}
 use Rattle.sweep.proofs.Making.{Making, starts-making, made-fits, output-length, goes-on, given-solid, added-within, output-put, output-left, gives, all-made}
@@ -17,10 +17,10 @@ use Rattle.sweep.proofs.sweep_all.Statement.{statement}
 use Rattle.sweep.proofs.sweep_all.Tie as tie
 
 abbrev Inv-loop : tie.InvT-loop
-Inv-loop points order work₀ rects₀ writes z₀ made₀ area₀ edge₀ work rects z made area edge = Making (sweptPoints points order) writes work₀ rects₀ work rects z made area edge
+Inv-loop points order work₀ rects₀ writes edge z₀ made₀ area₀ work rects z made area = Making (sweptPoints points order) writes work₀ rects₀ work rects z made area
 
 abbrev μ-loop : tie.MeasureT-loop
-μ-loop points order work₀ rects₀ writes z₀ made₀ area₀ edge₀ work rects z made area edge = toCome (sweptPoints points order) z
+μ-loop points order work₀ rects₀ writes edge z₀ made₀ area₀ work rects z made area = toCome (sweptPoints points order) z
 
 -- of a move: where the loop is, the points that are swept, and what it leaves of the working array
 abbrev loop-of : tie.After-advance Inv-loop μ-loop → tie.At-loop Inv-loop μ-loop
@@ -53,7 +53,7 @@ gave k = k .before .before .before
 given : (k : tie.After-rect Inv-loop μ-loop) → let d = gave k in let l = loop-of d .loop in Gives (swept d) (l .z) (l .work) (k .rect .given .0 .0) (k .rect .given .0 .1 .0) (k .rect .given .0 .1 .1 .0) (work-after d)
 given k = rw (k .rect .given .1) at (k .before .before .before .advance .ensures)
 
--- the rectangle has an area and an edge
+-- the rectangle has an area
 solid : (k : tie.After-rect Inv-loop μ-loop) → flat (k .rect .given .0 .0) ≡ false
 solid k = given-solid (loop-of (gave k) .loop .inv) (given k)
 
@@ -69,19 +69,13 @@ add-area c =
     let m = loop-of (gave k) .loop .inv in
     omega (arith, added-within m (given k) areaOf (m .areas) (c .area-of .ensures), rule-area-most _ (m .underway .ready .points))
 
-add-edge : tie.Need-add-edge Inv-loop μ-loop
-add-edge c =
-    let k = c .before .before .before .before in
-    let m = loop-of (gave k) .loop .inv in
-    omega (arith, added-within m (given k) edgeOf (m .edges) (c .edge-of .ensures), rule-edge-fits _ (m .underway .ready .points))
-
 loop-again-2 : tie.Need-loop-again-2 Inv-loop μ-loop
 loop-again-2 c =
-    let j = c .before .before in
+    let j = c .before in
     let k = j .before .before in
     let m = loop-of (gave k) .loop .inv in
     let g = given k in
-    gives m g (⊎-elim (λ w. output-put m g (w .0 .taken) (w .4 ∙ w .2 .ensures)) (λ w. output-left m g (w .0 .left) (w .1)) (j .if1 .came)) (c .before .area-of .ensures) (c .edge-of .ensures)
+    gives m g (⊎-elim (λ w. output-put m g (w .0 .taken) (w .4 ∙ w .2 .ensures)) (λ w. output-left m g (w .0 .left) (w .1)) (j .if1 .came)) (c .area-of .ensures)
 
 -- ---- A move that is refused
 
@@ -108,7 +102,7 @@ returns c = absurd (c .before .if2 .taken (refusal (c .before .before .before) .
 returns-2 : tie.Need-returns-2 Inv-loop μ-loop
 returns-2 c =
     let k = c .before .before .before in
-    rw (c .whole-list .ensures) (all-made (loop-of (refused k) .loop .inv) (refusal k .2))
+    rw (c .whole-list .ensures) (all-made (loop-of (refused k) .loop .inv) (refusal k .2) (loop-of (refused k) .before .before .before .args .edge))
 
 pub sweep-all-spec : {M : Type 1} → statement M
 sweep-all-spec =
@@ -116,7 +110,7 @@ sweep-all-spec =
     (tie.spec
     Inv-loop μ-loop (λ c κs. tt) loop-holds (λ c κs. c .before .loop .inv .underway) (λ c. search needs) (λ c. on (c .before) .less)
     loop-again (λ c. search needs) put-rect-requires (λ c κs. solid (c .before .before)) add-area
-    (λ c κs. solid (c .before .before .before)) add-edge (λ c. omega (arith, made-fits (loop-again-2 c)))
-    (λ c. given (c .before .before .before .before) .less) loop-again-2 (λ c. search needs) (λ c κs. search needs)
+    (λ c. omega (arith, made-fits (loop-again-2 c)))
+    (λ c. given (c .before .before .before) .less) loop-again-2 (λ c. search needs) (λ c κs. search needs)
     (λ c. work-long (c .before .before .before)) (λ c. output-long (c .before .before .before)) returns (λ c κs. search needs)
     (λ c. work-long (c .before .before .before)) (λ c. output-long (c .before .before .before)) returns-2)

@@ -65,7 +65,7 @@ square-sum z n rs t h = sym (below-sum n (λ i r. sumBelow n (λ j. bit (holds (
     line a = sym (below-sum n (λ j r. bit (holds a (z +ℤ pos j) r)) rs) ∙ below-cong n (λ j. sym (count-sum (holds a (z +ℤ pos j)) rs) ∙ h a (z +ℤ pos j))
 
 -- at most all the cells of a square pass
-pub square-most : (z : ℤ) (n : ℕ) (t : ℤ → ℤ → Bool) → cellsFrom z n t ≤ n * n
+square-most : (z : ℤ) (n : ℕ) (t : ℤ → ℤ → Bool) → cellsFrom z n t ≤ n * n
 unfolding cellsFrom
 square-most z n t = below-most n n _ (λ i. line (z +ℤ pos i))
   where
@@ -100,11 +100,3 @@ cells-areas rs t f e h = sum-cong areaOf _ rs (λ r m. sym (cells-hold r (f r m)
 pub cells-most : (t : ℤ → ℤ → Bool) → cells t ≤ 4_000_000_000_000_000_000
 unfolding cells
 cells-most t = square-most lowEnd rangeSize t
-
--- a rectangle in range holds no cell out of the range
-pub held-in-range : (a b : ℤ) (r : Rect) → rectInRange r ≡ true → holds a b r ≡ true → ((leZ lowEnd a ≡ true) × (ltZ a highEnd ≡ true)) × ((leZ lowEnd b ≡ true) × (ltZ b highEnd ≡ true))
-unfolding holds
-held-in-range a b r e h =
-    let w = range-within r e in
-    let k = and-four (leZ (r .x) a) (ltZ a (right r)) (leZ (r .y) b) (ltZ b (top r)) h in
-    omega order

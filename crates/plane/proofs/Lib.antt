@@ -18,4 +18,5 @@ pub mod Swaps
 pub mod Different
 pub mod Lines
 pub mod Edge
+pub mod Sides
 pub mod Outcomes

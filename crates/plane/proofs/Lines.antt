@@ -19,8 +19,8 @@ use Rattle.plane.proofs.Bools.{clash, by-no, or-parts, xor-back}
 use Rattle.plane.proofs.Sums.{sum-zero, sum-cong, sum-add, any-in, in-only, only-none, only-passes, sum-only, below-cong, below-zero, below-plus}
 use Rattle.plane.proofs.Maps.{sum-map, any-map, map-all, map-in}
 use Rattle.plane.proofs.Parity.{odd-map, odd-none-of, odd-cons, odd-cong, odd-none, odd-only}
-use Rattle.plane.proofs.Swaps.{same-sym, same-odd, same-any}
-use Rattle.plane.proofs.Points.{same-is, After, after-no, after-yes, after-trans, after-both, before-after}
+use Rattle.plane.proofs.Swaps.{same-odd, same-any}
+use Rattle.plane.proofs.Points.{same-is, after-no, after-yes, after-trans, after-both, before-after}
 use Rattle.plane.proofs.Grid.{distance-counts}
 use Rattle.plane.proofs.Sorted.{IsOrder, rising-first, sorted-first, sorted-twice, sorted-in, sorted-parity, sorted-same, sorted-only, sorted-map}
 use Rattle.plane.proofs.Different.{different-once, at-number, below-different}

@@ -1,7 +1,7 @@
 -- The area reported is the number of marked cells, at most 4·10^18. The edge reported is the number of unit sides with a marked cell on exactly one
 -- side, at most 2·10^9 for each point; for one rectangle it is 2·(W+H), and for any list at most the sum of these.
 use mathlib.Core.Path.{_≡_, refl, sym, ap, fun-ext, _∙_}
-use Prim.Native.Nat.{ℕ, _*_, _≤_}
+use Prim.Native.Nat.{_*_, _≤_}
 use native.Mathlib.Omega.{arith}
 use mathlib.Core.Bool.{Bool, true, false}
 use mathlib.Core.List.{List, [], _∷_, List·Memᴰ·head as head}
@@ -17,7 +17,8 @@ use Rattle.plane.proofs.Bools.{xor-false, isOdd}
 use Rattle.plane.proofs.Sums.{sum-cong, count-sum}
 use Rattle.plane.proofs.Parity.{odd-sum}
 use Rattle.plane.proofs.Grid.{cells-areas, cells-most}
-use Rattle.plane.proofs.Edge.{Balanced, edge-counts, edge-most, marked-inside, lower-inside, left-inside, sides-hold, sides-odd}
+use Rattle.plane.proofs.Edge.{Balanced, edge-counts, edge-most, marked-inside, lower-inside, left-inside}
+use Rattle.plane.proofs.Sides.{sides-hold, sides-odd}
 use Rattle.rule.specs.Rule.{ruleList}
 use Rattle.rule.specs.Rows.{Accepted}
 use Rattle.rule.proofs.Cover.{rule-covers}

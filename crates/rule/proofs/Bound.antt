@@ -4,19 +4,20 @@ use mathlib.Core.Path.{_≡_, refl, sym, ap, _∙_}
 use Prim.Native.Nat.{ℕ, zero, suc, _+_, _-_, _*_, _/_, _≤_, _<_}
 use native.Mathlib.Omega.{arith}
 use native.Mathlib.Nat.{mul-le-mul-left}
-use mathlib.Core.Bool.{Bool, true, false, not, _&&_, _||_, and-true}
+use mathlib.Core.Bool.{Bool, true, _&&_, and-true}
 use mathlib.Core.Logic.{_⊎_, inl, inr}
-use mathlib.Core.List.{List, [], _∷_, List·Memᴰ as In, List·Memᴰ·head as head, List·Memᴰ·tail as tail}
+use mathlib.Core.List.{List, [], _∷_, List·Memᴰ as In}
 use lib.ListN.{length, length-map}
 use lib.IntN.{ℤ}
 use lib.Signed.{ltZ}
 use Rattle.plane.specs.declared.Point.{Point}
 use Rattle.plane.specs.declared.Rect.{Rect}
-use Rattle.plane.specs.Lists.{bit, any, count, sum}
+use Rattle.plane.specs.Lists.{any, count, sum}
 use Rattle.plane.specs.Words.{eqZ, different, onRow}
 use Rattle.plane.proofs.Order.{order, eqZ-is, eqZ-refl}
 use Rattle.plane.proofs.Bools.{even-half, isOdd}
-use Rattle.plane.proofs.Sums.{any-find, any-in, count-find, count-less, count-length, sum-most, sum-length}
+use Rattle.plane.proofs.Sums.{any-find, any-in, count-less, count-length, sum-most, sum-length}
+use Rattle.plane.proofs.Maps.{map-in}
 use Rattle.plane.proofs.Parity.{odd-sum, odd-cong}
 use Rattle.plane.proofs.Different.{different-has, different-few}
 use Rattle.rule.specs.Rule.{toggleFour, step, run, leftAfter, enough, ruleList, rowsOf, rowCount, Picked}
@@ -27,18 +28,13 @@ use Rattle.rule.proofs.Steps.{sum-step, step-all, step-keeps-accepted, 
 
 -- ---- The different rows
 
--- a point's row is one of the rows
-rows-in : {q : Point} {ps : List Point} → In q ps → In (q .y) (rowsOf ps)
-rows-in {ps = p ∷ ps} (head e) = head (ap (λ (r : Point). r .y) e)
-rows-in {ps = p ∷ ps} (tail n) = tail (rows-in n)
-
 -- ---- The weights, over a list R of rows that has every point's row
 
 abbrev Listed : List ℤ → List Point → Type 0
 Listed R ps = (q : Point) → In q ps → any (eqZ (q .y)) R ≡ true
 
 rows-listed : (ps : List Point) → Listed (different (rowsOf ps)) ps
-rows-listed ps q n = different-has (q .y) (rowsOf ps) (any-in (eqZ (q .y)) (rows-in n) (eqZ-refl (q .y)))
+rows-listed ps q n = different-has (q .y) (rowsOf ps) (any-in (eqZ (q .y)) (map-in (λ (p : Point). p .y) n) (eqZ-refl (q .y)))
 
 -- the rows above one
 rank : List ℤ → ℤ → ℕ

@@ -1,10 +1,9 @@
 -- `panbuckle::step` meets its contract. Past the checks the points are accepted, and their step is `take_rectangle`'s; a refusal leaves all as it
 -- was.
 use borrow.Author.Needs.{needs}
-use lib.ListN.{length}
+use Rattle.plane.specs.Edge.{edgeLength}
 use Rattle.entry.specs.Checks.{verdict}
 use Rattle.entry.proofs.Entry.{counted-accepted, counted-refused}
-use Rattle.plane.specs.Edge.{edgeLength}
 use Rattle.rule.specs.StepCall.{stepAnswer, stepWork, stepChecks}
 use Rattle.rule.proofs.StepCall.{step-numbered, step-accepted}
 use Rattle.panbuckle.specs.Inner.{held}

@@ -34,7 +34,7 @@ pub struct Refused {
     pub place: u64,
 }
 
-/// What forward says of a list.
+/// What forward says of a list. The edge is the length of the outline of the marked cells, without seams.
 #[derive(Debug, PartialEq, Eq)]
 pub struct Sums {
     pub count: usize,

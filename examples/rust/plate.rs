@@ -27,6 +27,9 @@ fn main() {
     assert_eq!(forward(&points, &mut work, &mut room), Err(Refused { number: 8, place: 4 }));
     assert_eq!(room, [7; 12]);
     assert_eq!(forward(&points[..15], &mut work, &mut rects), Err(Refused { number: 1, place: 0 }));
+    // A ring: 16 around it and 8 around its hole; where its rectangles abut there is no edge.
+    let ring = [0, 0, 4, 0, 0, 4, 4, 4, 1, 1, 3, 1, 1, 3, 3, 3];
+    assert_eq!(forward(&ring, &mut work, &mut rects), Ok(Sums { count: 4, area: 12, edge: 24 }));
     assert_eq!(forward(&[], &mut [], &mut []), Ok(Sums { count: 0, area: 0, edge: 0 }));
     println!("{:?}", rects);
 }

@@ -117,7 +117,7 @@ static void ring_calls(void)
     }
     lend();
     uint32_t done = panbuckle_forward(ring, 16, work, LENT, out, 16, result);
-    judge("forward DONE", done, PANBUCKLE_DONE, 0, 4, begins(work, zeros, 16) && begins(out, ring_list, 16) && result[3] == 12 && result[4] == 32);
+    judge("forward DONE", done, PANBUCKLE_DONE, 0, 4, begins(work, zeros, 16) && begins(out, ring_list, 16) && result[3] == 12 && result[4] == 24);
 }
 
 static void backward_calls(void)

@@ -69,7 +69,7 @@ TEXT lines bad = each 11 lines bad
 unfoldable pub pointChecks : List Point → List Check
 pointChecks ps = RANGE ps ∷ REPEATED ps ∷ ROW ps ∷ COLUMN ps ∷ []
 
--- the same of points that are not more than either takes: 2, and then 4, 5, 6, 7
+-- the same, and before it whether they are too many: 2, 4, 5, 6, 7
 unfoldable pub fewChecks : List Point → List Check
 fewChecks ps = MANY mostPoints (length ps) ∷ pointChecks ps
 

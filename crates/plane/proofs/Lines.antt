@@ -75,7 +75,7 @@ module _ (z : ℤ) (n : ℕ) where
       ∙ ap₂ _+_ (distance-counts z a b n (in-n a (head refl) .0) (omega order) (in-n b (tail (head refl)) .1)) (pairs-count zs (second .0) (λ x m. in-n x (tail (tail m))) (two-less a b zs e))
 
   -- as they stand, too
-  pub inPairs-count : (zs : List ℤ) → ((x : ℤ) → In x zs → Among x) → odd (λ x. true) zs ≡ false → oddPlaces zs ≡ inPairs zs
+  inPairs-count : (zs : List ℤ) → ((x : ℤ) → In x zs → Among x) → odd (λ x. true) zs ≡ false → oddPlaces zs ≡ inPairs zs
   unfolding inPairs
   inPairs-count zs in-n e =
       below-cong n (λ i. ap bit (sym (sorted-parity rising-first (λ x. leZ x (z +ℤ pos i)) zs)))
@@ -95,6 +95,10 @@ pairs-most (a ∷ b ∷ zs) h =
     omega (arith, pairs-most zs (λ x m. h x (tail (tail m))))
 
 -- ---- Lines of points
+
+-- without two points of one line, even lines are even
+pub rest-even : (across : Point → ℤ) (p q : Point) (qs : List Point) → across q ≡ across p → ((k : ℤ) → odd (λ r. eqZ (across r) k) (p ∷ q ∷ qs) ≡ false) → (k : ℤ) → odd (λ r. eqZ (across r) k) qs ≡ false
+rest-even across p q qs e even k = sym (xor-back (eqZ (across p) k) _) ∙ sym (odd-cons _ p (q ∷ qs) ∙ ap (xor (eqZ (across p) k)) (odd-cons _ q qs ∙ ap (λ j. xor (eqZ j k) (odd (λ r. eqZ (across r) k) qs)) e)) ∙ even k
 
 module _ (across along : Point → ℤ) where
   -- the parity of a test over a line
@@ -126,7 +130,7 @@ module _ (across along : Point → ℤ) where
 -- ---- Points in order, by lines and then along them
 
 -- the order of points is one
-pub points-ordered : IsOrder before
+points-ordered : IsOrder before
 points-ordered = record {
   one-way = λ p q e. by-no (before q p) (λ d. before-after q p d (after-yes p q e));
   through = λ p q r e d. by-no (before p r) (λ f. before-after p r f (after-trans (after-no p q e) (after-no q r d)));
@@ -146,16 +150,25 @@ module _ (across along : Point → ℤ) where
   pub lines-ordered : ((p q : Point) → turned p ≡ turned q → p ≡ q) → IsOrder linedBefore
   lines-ordered tell = record { one-way = λ p q. points-ordered .one-way (turned p) (turned q); through = λ p q r. points-ordered .through (turned p) (turned q) (turned r); only = λ p q e d. tell p q (points-ordered .only (turned p) (turned q) e d) }
 
+  -- a point that is not before another is on no earlier line, and on the same line not before it
+  no-lower : (p q : Point) → linedBefore q p ≡ false → ltZ (across q) (across p) ≡ false
+  unfolding before
+  no-lower p q e = or-parts (ltZ (across q) (across p)) _ e .0
+
+  along-line : (p q : Point) → linedBefore q p ≡ false → across q ≡ across p → ltZ (along q) (along p) ≡ false
+  unfolding before
+  along-line p q e d = let h = or-parts (ltZ (across q) (across p)) _ e .1 in let s : eqZ (across q) (across p) ≡ true = omega order in rw s at h
+
+  -- two points of one line before others add their distance to that line's pairs
+  two-before : (p q : Point) (qs : List Point) → across q ≡ across p → (k : ℤ) → pairs (line across along k (p ∷ q ∷ qs)) ≡ bit (eqZ (across p) k) * natAbs (along q -ℤ along p) + pairs (line across along k qs)
+  unfolding line only pairs
+  two-before p q qs e k = rw e (go (eqZ (across p) k))
+    where
+      go : (b : Bool) → pairs (map along (keep b p (keep b q (only (λ r. eqZ (across r) k) qs)))) ≡ bit b * natAbs (along q -ℤ along p) + pairs (line across along k qs)
+      go true = omega arith
+      go false = omega arith
+
   module _ (is : IsOrder linedBefore) where
-    -- a later point is on a later line, or later on the same
-    along-line : (p q : Point) → linedBefore q p ≡ false → across q ≡ across p → ltZ (along q) (along p) ≡ false
-    unfolding before
-    along-line p q e d = let h = or-parts (ltZ (across q) (across p)) _ e .1 in let s : eqZ (across q) (across p) ≡ true = omega order in rw s at h
-
-    no-lower : (p q : Point) → linedBefore q p ≡ false → ltZ (across q) (across p) ≡ false
-    unfolding before
-    no-lower p q e = or-parts (ltZ (across q) (across p)) _ e .0
-
     -- a line of points in order is by rising
     line-rising : (k : ℤ) (qs : List Point) → sortedBy linedBefore qs ≡ qs → sortedBy ltZ (line across along k qs) ≡ line across along k qs
     unfolding line
@@ -192,19 +205,6 @@ module _ (across along : Point → ℤ) where
         go true e = refl
         go false e = absurd (true≢false (sym (odd-cons _ p (q ∷ qs) ∙ ap₂ xor (eqZ-refl (across p)) (odd-none (λ r. eqZ (across r) (across p)) (q ∷ qs) (apart e))) ∙ even))
 
-    -- two points of one line before others add their distance to that line's pairs
-    two-before : (p q : Point) (qs : List Point) → across q ≡ across p → (k : ℤ) → pairs (line across along k (p ∷ q ∷ qs)) ≡ bit (eqZ (across p) k) * natAbs (along q -ℤ along p) + pairs (line across along k qs)
-    unfolding line only pairs
-    two-before p q qs e k = rw e (go (eqZ (across p) k))
-      where
-        go : (b : Bool) → pairs (map along (keep b p (keep b q (only (λ r. eqZ (across r) k) qs)))) ≡ bit b * natAbs (along q -ℤ along p) + pairs (line across along k qs)
-        go true = omega arith
-        go false = omega arith
-
-    -- without two points of one line, every line of even ones is even
-    pub rest-even : (p q : Point) (qs : List Point) → across q ≡ across p → ((k : ℤ) → odd (λ r. eqZ (across r) k) (p ∷ q ∷ qs) ≡ false) → (k : ℤ) → odd (λ r. eqZ (across r) k) qs ≡ false
-    rest-even p q qs e even k = sym (xor-back (eqZ (across p) k) _) ∙ sym (odd-cons _ p (q ∷ qs) ∙ ap (xor (eqZ (across p) k)) (odd-cons _ q qs ∙ ap (λ j. xor (eqZ j k) (odd (λ r. eqZ (across r) k) qs)) e)) ∙ even k
-
     -- line by line, over lines of which each point's is there once, or two by two over all the points
     lined-pairs : (ks : List ℤ) (qs : List Point) → sortedBy linedBefore qs ≡ qs → ((q : Point) → In q qs → count (eqZ (across q)) ks ≡ 1) → ((k : ℤ) → odd (λ q. eqZ (across q) k) qs ≡ false) → sum (λ k. pairs (line across along k qs)) ks ≡ pairs (map along qs)
     unfolding line pairs only xor
@@ -217,7 +217,7 @@ module _ (across along : Point → ℤ) where
         let here : count (eqZ (across p)) ks * d ≡ d = rw (once p (head refl)) (omega arith) in
         sum-cong _ (λ k. bit (eqZ (across p) k) * d + pairs (line across along k qs)) ks (λ k m. two-before p q qs e k)
         ∙ sum-add (λ k. bit (eqZ (across p) k) * d) (λ k. pairs (line across along k qs)) ks
-        ∙ ap₂ _+_ (at-number (λ k. d) (across p) ks ∙ here) (lined-pairs ks qs rest (λ r m. once r (tail (tail m))) (rest-even p q qs e even))
+        ∙ ap₂ _+_ (at-number (λ k. d) (across p) ks ∙ here) (lined-pairs ks qs rest (λ r m. once r (tail (tail m))) (rest-even across p q qs e even))
 
     -- so the edge along even lines is that of the points in order, two by two
     pub lines-in-order : {ps qs : List Point} → SameItems ps qs → sortedBy linedBefore qs ≡ qs → ((k : ℤ) → odd (λ p. eqZ (across p) k) ps ≡ false) → lineEdge across along ps ≡ pairs (map along qs)

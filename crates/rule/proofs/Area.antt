@@ -31,7 +31,7 @@ pub rule-area : (ps : List Point) → Accepted ps → sum areaOf (ruleList ps) �
 rule-area ps acc = cells-areas (ruleList ps) (marks ps) (rule-rects ps acc .solid) (rule-rects ps acc .range) (rule-covers ps acc)
 
 -- accepted points are in range, with even rows and columns
-pub accepted-balanced : {ps : List Point} → Accepted ps → Balanced ps
+accepted-balanced : {ps : List Point} → Accepted ps → Balanced ps
 accepted-balanced acc = record { range = acc .range; rows = acc .rows; columns = acc .columns }
 
 -- no cell out of the range is marked

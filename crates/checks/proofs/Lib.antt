@@ -1,3 +1,4 @@
 pub mod Neighbours
 pub mod Clear
+pub mod Repeated
 pub mod Kept

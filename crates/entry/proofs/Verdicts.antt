@@ -136,6 +136,23 @@ pub verdict-each : (k n : ℕ) (t : ℕ → Bool) (checks : List Check) → let 
 unfolding verdict judged
 verdict-each k n t checks = cond-later (ltb (firstBad n t) n) k (firstBad n t) (verdict checks)
 
+-- one of which nothing offends passes to the later ones
+pub verdict-passes : (c : Check) (checks : List Check) → Clear c → verdict (c ∷ checks) ≡ verdict checks
+unfolding verdict
+verdict-passes c checks h = go (check-says c)
+  where
+    go : {v : Verdict} → Says c v → orLater v (verdict checks) ≡ verdict checks
+    go (gives g) = absurd (clear-given h g)
+    go (passes _) = refl
+
+-- and one of n items, where not all pass, refuses the first that does not
+pub verdict-offends : (k n : ℕ) (t : ℕ → Bool) (checks : List Check) → (NoneBelow n t → ⊥) → verdict (each k n t ∷ checks) ≡ refused k (firstBad n t)
+verdict-offends k n t checks h = rw (verdict-each k n t checks) (go (first-found n t))
+  where
+    go : {i : ℕ} → Found n t i → cond (ltb i n) (refused k i) (verdict checks) ≡ refused k i
+    go (at {i} l e f) = rw (lt-ltb i n l)
+    go (nowhere f) = absurd (h f)
+
 -- one row is given first, at one place
 pub first-unique : {checks : List Check} {k p j q : ℕ} → FirstGiven checks k p → FirstGiven checks j q → (k ≡ j) × (p ≡ q)
 first-unique (this g) (this h) = given-unique g h

@@ -13,6 +13,7 @@ use Rattle.plane.specs.declared.Point.{Point}
 use Rattle.plane.specs.Lists.{bit, odd}
 use Rattle.plane.specs.Words.{eqZ, lowEnd, highEnd, rangeSize, inRange, pointInRange, onRow, inColumn, under, marks, cellsFrom}
 use Rattle.plane.specs.Sorted.{sortedBy}
+use Rattle.plane.specs.Remaining.{Balanced}
 use Rattle.plane.specs.Edge.{pairs, line, lineEdge, xOf, yOf, edgeLength, lowerSide, leftSide, unitSides}
 use Rattle.plane.proofs.Order.{order, eqZ-is, eqZ-refl, pos-up, neg-up, pred-up, range-up}
 use Rattle.plane.proofs.Bools.{clash, by, and-parts, and-make, xor-back}
@@ -21,12 +22,6 @@ use Rattle.plane.proofs.Maps.{map-all}
 use Rattle.plane.proofs.Parity.{odd-cons, odd-cong, odd-xor, odd-find, classes-even}
 use Rattle.plane.proofs.Sorted.{IsOrder, sorted-sum, sorted-in, sorted-length, sorted-twice}
 use Rattle.plane.proofs.Lines.{pairs-most, line-odd, lines-count, linedBefore, lines-ordered, lines-in-order}
-
--- points in range, with every row and every column even; one may stand more than once
-pub record Balanced (ps : List Point) : Type 0 where
-  pub range : (q : Point) → In q ps → pointInRange q ≡ true
-  pub rows : (y : ℤ) → odd (onRow y) ps ≡ false
-  pub columns : (x : ℤ) → odd (inColumn x) ps ≡ false
 
 -- ---- A unit side counts where an odd number of its line's points are at or before it
 
@@ -91,19 +86,6 @@ edge-counts ps h = ap₂ _+_ (square-rows lowEnd (rangeSize + 1) ps inside (h .r
 -- so points that mark the same cells have the same edge
 pub marks-edge : (ps qs : List Point) → Balanced ps → Balanced qs → ((a b : ℤ) → marks ps a b ≡ marks qs a b) → edgeLength ps ≡ edgeLength qs
 marks-edge ps qs h g e = edge-counts ps h ∙ ap unitSides (fun-ext (λ a. fun-ext (λ b. e a b))) ∙ sym (edge-counts qs g)
-
--- and a point that is given twice more changes nothing
-pub edge-twice : (p : Point) (ps : List Point) → pointInRange p ≡ true → Balanced ps → edgeLength (p ∷ p ∷ ps) ≡ edgeLength ps
-unfolding marks
-edge-twice p ps r h = marks-edge (p ∷ p ∷ ps) ps (record { range = within; rows = λ y. twice (onRow y) ∙ h .rows y; columns = λ x. twice (inColumn x) ∙ h .columns x }) h (λ a b. twice (under a b))
-  where
-    twice : (f : Point → Bool) → odd f (p ∷ p ∷ ps) ≡ odd f ps
-    twice f = odd-cons f p (p ∷ ps) ∙ ap (xor (f p)) (odd-cons f p ps) ∙ xor-back (f p) (odd f ps)
-
-    within : (q : Point) → In q (p ∷ p ∷ ps) → pointInRange q ≡ true
-    within q (head e) = rw e r
-    within q (tail (head e)) = rw e r
-    within q (tail (tail m)) = h .range q m
 
 -- ---- No marked cell and no unit side lies out of the range
 

@@ -15,8 +15,10 @@ pub mod Places
 pub mod Keys
 pub mod Sorted
 pub mod Swaps
+pub mod Pairs
 pub mod Different
 pub mod Lines
 pub mod Edge
+pub mod Remaining
 pub mod Sides
 pub mod Outcomes

@@ -10,7 +10,7 @@ use Rattle.plane.specs.declared.Point.{Point}
 use Rattle.plane.specs.Lists.{bit, any, count, odd, sum}
 use Rattle.plane.specs.Words.{eqZ, same, before}
 use Rattle.plane.proofs.Order.{order, eqZ-is, eqZ-refl}
-use Rattle.plane.proofs.Bools.{clash, by, by-no, and-parts, and-make, xor-back}
+use Rattle.plane.proofs.Bools.{clash, by, by-no, iff, and-parts, and-make, xor-back}
 use Rattle.plane.proofs.Sums.{any-find, count-sum, count-in}
 use Rattle.plane.proofs.Parity.{odd-cong, odd-none, odd-split, odd-one}
 
@@ -27,6 +27,10 @@ same-is p q e =
 pub same-refl : (p : Point) → same p p ≡ true
 unfolding same
 same-refl p = and-make _ _ (eqZ-refl (p .x)) (eqZ-refl (p .y))
+
+-- two points are the same either way round
+pub same-swap : (p q : Point) → same p q ≡ same q p
+same-swap p q = iff (same p q) (same q p) (λ e. rw (same-is p q e) (same-refl q)) (λ e. rw (same-is q p e) (same-refl p))
 
 -- a list that has a point the same as p has p
 pub same-in : (p : Point) (ps : List Point) → any (same p) ps ≡ true → In p ps

@@ -235,6 +235,16 @@ module _ {A : Type 0} where
       go true ih = omega arith
       go false ih = omega arith
 
+  -- how many pass a test of those that pass another
+  pub count-only : (f g : A → Bool) (l : List A) → count f (only g l) ≡ count (λ a. g a && f a) l
+  unfolding count only
+  count-only f g [] = refl
+  count-only f g (a ∷ l) = go (count-only f g l) (g a)
+    where
+      go : count f (only g l) ≡ count (λ b. g b && f b) l → (t : Bool) → count f (keep t a (only g l)) ≡ cond (t && f a) (suc (count (λ b. g b && f b) l)) (count (λ b. g b && f b) l)
+      go ih true = rw ih
+      go ih false = ih
+
   -- no more pass than there are
   pub length-only : (f : A → Bool) (l : List A) → length (only f l) ≤ length l
   unfolding only

@@ -4,3 +4,4 @@ pub mod Keys
 pub mod Sorted
 pub mod Swaps
 pub mod Edge
+pub mod Remaining

@@ -17,22 +17,19 @@ use Rattle.plane.proofs.Bools.{xor-false, isOdd}
 use Rattle.plane.proofs.Sums.{sum-cong, count-sum}
 use Rattle.plane.proofs.Parity.{odd-sum}
 use Rattle.plane.proofs.Grid.{cells-areas, cells-most}
-use Rattle.plane.proofs.Edge.{Balanced, edge-counts, edge-most, marked-inside, lower-inside, left-inside}
+use Rattle.plane.proofs.Edge.{edge-counts, edge-most, marked-inside, lower-inside, left-inside}
 use Rattle.plane.proofs.Sides.{sides-hold, sides-odd}
 use Rattle.rule.specs.Rule.{ruleList}
 use Rattle.rule.specs.Rows.{Accepted}
 use Rattle.rule.proofs.Cover.{rule-covers}
 use Rattle.rule.proofs.Rising.{rule-rects}
+use Rattle.rule.proofs.Remaining.{accepted-balanced}
 
 -- ---- The area
 
 -- the sum of W · H is the number of marked cells of the range
 pub rule-area : (ps : List Point) → Accepted ps → sum areaOf (ruleList ps) ≡ cells (marks ps)
 rule-area ps acc = cells-areas (ruleList ps) (marks ps) (rule-rects ps acc .solid) (rule-rects ps acc .range) (rule-covers ps acc)
-
--- accepted points are in range, with even rows and columns
-accepted-balanced : {ps : List Point} → Accepted ps → Balanced ps
-accepted-balanced acc = record { range = acc .range; rows = acc .rows; columns = acc .columns }
 
 -- no cell out of the range is marked
 pub marked-in-range : (ps : List Point) → Accepted ps → (a b : ℤ) → marks ps a b ≡ true → ((leZ lowEnd a ≡ true) × (ltZ a highEnd ≡ true)) × ((leZ lowEnd b ≡ true) × (ltZ b highEnd ≡ true))

@@ -16,13 +16,13 @@ use Rattle.plane.proofs.Bools.{cond-case}
 use Rattle.plane.proofs.AtStart.{start-starts}
 use Rattle.entry.specs.Checks.{Check, numbersOf, Verdict, accepted, refused, verdict}
 use Rattle.entry.specs.Entry.{numberIn, Answers, Leaves}
-use Rattle.entry.proofs.Verdicts.{AllClear, refused-exactly, accepted-clear, clear-append, verdict-append, refused-number, lacks-room}
+use Rattle.entry.proofs.Verdicts.{AllClear, verdict-case, refused-exactly, accepted-clear, clear-append, verdict-append, refused-number, lacks-room}
 use Rattle.entry.proofs.Entry.{Numbered, accepts, answers, leaves, refused-is}
 use Rattle.rule.specs.declared.ForwardAnswer.{ForwardAnswer}
-use Rattle.rule.specs.Rows.{ROOM, pointChecks}
+use Rattle.rule.specs.Rows.{ROOM, balanceChecks}
 use Rattle.rule.specs.Working.{workOf}
 use Rattle.rule.specs.ForwardCall.{forwardList, forwardChecks, ForwardAccepted, forwardAnswer, sumsTold, forwardOut, drained, forwardWork, ForwardDone, inputChecks}
-use Rattle.rule.proofs.Rows.{length-clear, many-clear, work-clear, room-clear, points-clear}
+use Rattle.rule.proofs.Rows.{length-clear, many-clear, work-clear, room-clear, balance-clear}
 use Rattle.rule.proofs.Working.{padded-none, work-length}
 
 -- the last check
@@ -32,13 +32,13 @@ lastCheck a out = ROOM (length (forwardList a)) (out / rectSize) ∷ []
 module _ (a : List ℤ) (work out : ℕ) where
   -- ---- Its checks
 
-  -- 1, 2, 3, 4, 5, 6, 7, 8
-  pub forward-order : numbersOf (forwardChecks a work out) ≡ 1 ∷ 2 ∷ 3 ∷ 4 ∷ 5 ∷ 6 ∷ 7 ∷ 8 ∷ []
-  unfolding forwardChecks inputChecks pointChecks numbersOf
+  -- 1, 2, 3, 4, 6, 7, 8
+  pub forward-order : numbersOf (forwardChecks a work out) ≡ 1 ∷ 2 ∷ 3 ∷ 4 ∷ 6 ∷ 7 ∷ 8 ∷ []
+  unfolding forwardChecks inputChecks balanceChecks numbersOf
   forward-order = refl
 
   forward-numbered : Numbered (forwardChecks a work out)
-  unfolding forwardChecks inputChecks pointChecks
+  unfolding forwardChecks inputChecks balanceChecks
   forward-numbered = omega arith
 
   -- they accept exactly what `ForwardAccepted` says
@@ -50,15 +50,20 @@ module _ (a : List ℤ) (work out : ℕ) where
       n = length a / 2
 
       go : AllClear (inputChecks a work) × AllClear (lastCheck a out) → ForwardAccepted a work out
-      go h = record { even = length-clear (length a) 2 .0 (h .0 .0); few = many-clear mostPoints n .0 (h .0 .1 .0); working = work-clear work n .0 (h .0 .1 .1 .0); points = points-clear (pointsOf a) .0 (h .0 .1 .1 .1); room = room-clear (length (forwardList a)) (out / rectSize) .0 (h .1 .0) }
+      go h = record { even = length-clear (length a) 2 .0 (h .0 .0); few = many-clear mostPoints n .0 (h .0 .1 .0); working = work-clear work n .0 (h .0 .1 .1 .0); points = balance-clear (pointsOf a) .0 (h .0 .1 .1 .1); room = room-clear (length (forwardList a)) (out / rectSize) .0 (h .1 .0) }
 
       back : ForwardAccepted a work out → AllClear (inputChecks a work) × AllClear (lastCheck a out)
-      back c = ((length-clear (length a) 2 .1 (c .even), (many-clear mostPoints n .1 (c .few), (work-clear work n .1 (c .working), points-clear (pointsOf a) .1 (c .points)))), (room-clear (length (forwardList a)) (out / rectSize) .1 (c .room), tt))
+      back c = ((length-clear (length a) 2 .1 (c .even), (many-clear mostPoints n .1 (c .few), (work-clear work n .1 (c .working), balance-clear (pointsOf a) .1 (c .points)))), (room-clear (length (forwardList a)) (out / rectSize) .1 (c .room), tt))
 
   -- it answers 0 exactly when they accept
   pub forward-accepts : (forwardAnswer a work out .answer ≡ 0) ↔ (verdict (forwardChecks a work out) ≡ accepted)
   unfolding forwardAnswer
   forward-accepts = accepts (forwardChecks a work out) forward-numbered
+
+  -- and never REPEATED, whatever is given
+  pub forward-never-repeated : forwardAnswer a work out .answer ≢ 5
+  unfolding forwardAnswer forwardChecks inputChecks balanceChecks
+  forward-never-repeated = verdict-case (λ v. numberIn v ≢ 5) (verdict (forwardChecks a work out)) (λ e. omega arith) (λ k p e. refused-number (forwardChecks a work out) (λ n. n ≢ 5) (omega arith) e)
 
 -- ---- Its room
 
@@ -72,7 +77,7 @@ accepted-with-room c h = record { even = c .even; few = c .few; working = c .wor
 
 -- it lacks room, at p, exactly when p is the length of the list, the output has room for fewer, and with room for p it would accept
 pub forward-lacks-room : (a : List ℤ) (work out p : ℕ) → (verdict (forwardChecks a work out) ≡ refused 8 p) ↔ (ForwardAccepted a work (rectSize * p) × (p ≡ length (forwardList a)) × (out / rectSize < p))
-unfolding forwardChecks inputChecks pointChecks
+unfolding forwardChecks inputChecks balanceChecks
 forward-lacks-room a work out p = lacks-room (inputChecks a work) 8 _ (out / rectSize) (rectSize * p / rectSize) p (omega arith) (omega arith) (forward-accepted a work (rectSize * p))
 
 module _ (a : List ℤ) (work out : ℕ) where
@@ -93,7 +98,7 @@ module _ (a : List ℤ) (work out : ℕ) where
 
 module _ (a : List ℤ) (work : ℕ) where
   pub input-numbered : Numbered (inputChecks a work)
-  unfolding inputChecks pointChecks
+  unfolding inputChecks balanceChecks
   input-numbered = omega arith
 
   -- what they refuse, it refuses with the same number and place
@@ -103,7 +108,7 @@ module _ (a : List ℤ) (work : ℕ) where
 
   -- never with 8
   pub input-refused-not-8 : {k p : ℕ} → verdict (inputChecks a work) ≡ refused k p → k ≢ 8
-  unfolding inputChecks pointChecks
+  unfolding inputChecks balanceChecks
   input-refused-not-8 e = refused-number (inputChecks a work) (λ n. n ≢ 8) (omega arith) e
 
   -- what they accept, it accepts with room for the list
@@ -138,6 +143,10 @@ module _ {a work out : List ℤ} {r : ForwardAnswer} {work-after out-after : Lis
   pub forward-answers : Answers (forwardChecks a (length work) (length out)) (r .answer) (r .place)
   unfolding forwardAnswer
   forward-answers = rw (d .answer) (answers (forwardChecks a (length work) (length out)) (forward-numbered a (length work) (length out)))
+
+  -- never REPEATED
+  pub never-repeated : r .answer ≢ 5
+  never-repeated = rw (d .answer) (forward-never-repeated a (length work) (length out))
 
   -- with the sums of the list, which on a refusal are 0
   pub forward-refused-sums : r .answer ≢ 0 → sumsTold r ≡ record { count = 0; area = 0; edge = 0 }

@@ -9,6 +9,7 @@ pub mod Bound
 pub mod Cover
 pub mod Rising
 pub mod Canon
+pub mod Remaining
 pub mod Area
 pub mod Backward
 pub mod RoundTrip

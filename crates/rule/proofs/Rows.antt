@@ -11,10 +11,11 @@ use borrow.Author.Tests.{ltb-false, le-ltb, eqb-true, eqb-false, eq-eqb, ne-eqb,
 use Rattle.plane.specs.declared.Point.{Point}
 use Rattle.plane.specs.declared.Rect.{Rect}
 use Rattle.plane.specs.Words.{origin, mostPoints, pointInRange, rectInRange, flat}
+use Rattle.plane.specs.Remaining.{Balanced}
 use Rattle.plane.proofs.Places.{at-every-place, all-pass, rows-even, columns-even, once-exactly}
-use Rattle.entry.specs.Checks.{accepted, verdict}
+use Rattle.entry.specs.Checks.{Check, accepted, verdict}
 use Rattle.entry.proofs.Verdicts.{Clear, AllClear, accepted-clear}
-use Rattle.rule.specs.Rows.{LENGTH, MANY, WORK, RANGE, RANGE-rects, ROOM, FLAT, DRAINED, pointChecks, fewChecks, Accepted, AcceptedRects}
+use Rattle.rule.specs.Rows.{LENGTH, MANY, WORK, RANGE, RANGE-rects, ROOM, FLAT, DRAINED, balanceChecks, pointChecks, fewThen, Accepted, AcceptedRects}
 
 -- ---- Rows of the whole
 
@@ -40,26 +41,37 @@ drained-clear points = (λ e. omega (arith, eqb-false points 0 e), λ h. ne-eqb 
 
 -- ---- Rows of the points, and of rectangles
 
+-- RANGE passes points in range
+range-clear : (ps : List Point) → Clear (RANGE ps) ↔ ((q : Point) → In q ps → pointInRange q ≡ true)
+range-clear ps = all-pass pointInRange ps origin
+
+pub balance-clear : (ps : List Point) → AllClear (balanceChecks ps) ↔ Balanced ps
+unfolding balanceChecks
+balance-clear ps = (
+  λ h. record { range = range-clear ps .0 (h .0); rows = rows-even ps .0 (h .1 .0); columns = columns-even ps .0 (h .1 .1 .0) },
+  λ c. (range-clear ps .1 (c .range), (rows-even ps .1 (c .rows), (columns-even ps .1 (c .columns), tt))),
+)
+
 pub points-clear : (ps : List Point) → AllClear (pointChecks ps) ↔ Accepted ps
 unfolding pointChecks
 points-clear ps = (
-  λ h. record { range = range-at .0 (h .0); once = once-exactly ps .0 (h .1 .0); rows = rows-even ps .0 (h .1 .1 .0); columns = columns-even ps .0 (h .1 .1 .1 .0) },
-  λ c. (range-at .1 (c .range), (once-exactly ps .1 (c .once), (rows-even ps .1 (c .rows), (columns-even ps .1 (c .columns), tt)))),
+  λ h. record { range = range-clear ps .0 (h .0); once = once-exactly ps .0 (h .1 .0); rows = rows-even ps .0 (h .1 .1 .0); columns = columns-even ps .0 (h .1 .1 .1 .0) },
+  λ c. (range-clear ps .1 (c .range), (once-exactly ps .1 (c .once), (rows-even ps .1 (c .rows), (columns-even ps .1 (c .columns), tt)))),
 )
-  where
-    range-at : Clear (RANGE ps) ↔ ((q : Point) → In q ps → pointInRange q ≡ true)
-    range-at = all-pass pointInRange ps origin
 
--- the checks of points accept exactly the points in range, none twice, with every row and every column even
-pub accepted-points : (ps : List Point) → (verdict (pointChecks ps) ≡ accepted) ↔ Accepted ps
-accepted-points ps = Iff·trans (accepted-clear (pointChecks ps)) (points-clear ps)
-
--- and those of no more points than are taken
-pub accepted-few : (ps : List Point) → (verdict (fewChecks ps) ≡ accepted) ↔ ((length ps ≤ mostPoints) × Accepted ps)
-unfolding fewChecks
-accepted-few ps =
+-- such checks, with MANY before them, accept exactly what passes them and is not too much
+few-accepted : (checks : List Point → List Check) (P : List Point → Type 0) → ((ps : List Point) → AllClear (checks ps) ↔ P ps) → (ps : List Point) → (verdict (fewThen checks ps) ≡ accepted) ↔ ((length ps ≤ mostPoints) × P ps)
+few-accepted checks P clear ps =
     let few = many-clear mostPoints (length ps) in
-    Iff·trans (accepted-clear (fewChecks ps)) (λ h. (few .0 (h .0), points-clear ps .0 (h .1)), λ c. (few .1 (c .0), points-clear ps .1 (c .1)))
+    Iff·trans (accepted-clear (fewThen checks ps)) (λ h. (few .0 (h .0), clear ps .0 (h .1)), λ c. (few .1 (c .0), clear ps .1 (c .1)))
+
+-- forward's: points in range, with every row and every column even
+pub balance-accepted : (ps : List Point) → (verdict (fewThen balanceChecks ps) ≡ accepted) ↔ ((length ps ≤ mostPoints) × Balanced ps)
+balance-accepted = few-accepted balanceChecks Balanced balance-clear
+
+-- a step's: the same, none twice
+pub points-accepted : (ps : List Point) → (verdict (fewThen pointChecks ps) ≡ accepted) ↔ ((length ps ≤ mostPoints) × Accepted ps)
+points-accepted = few-accepted pointChecks Accepted points-clear
 
 pub rects-clear : (rs : List Rect) → AllClear (FLAT rs ∷ RANGE-rects rs ∷ []) ↔ AcceptedRects rs
 rects-clear rs = (λ h. record { solid = solid-at .0 (h .0); range = range-at .0 (h .1 .0) }, λ c. (solid-at .1 (c .solid), (range-at .1 (c .range), tt)))

@@ -118,7 +118,7 @@ listL = map pos (0 ∷ 0 ∷ 1 ∷ 1 ∷ 0 ∷ 0 ∷ 1 ∷ 1 ∷ [])
 
 -- ---- The table
 
--- a line: what is asked, and what document 01 says, the edge as request 1 has it
+-- a line: what is asked, and what document 01 says, the edge as request 1 has it and case I as request 2 does
 pub record Case : Type 0 where
   pub asked : Asked
   pub says : Said
@@ -150,10 +150,13 @@ cases =
     ∷ record { asked = oneStep plateE; says = record { numbers = map pos (0 ∷ 0 ∷ 0 ∷ 0 ∷ 1 ∷ 1 ∷ 4 ∷ []); out = []; work = map pos (2 ∷ 2 ∷ 1 ∷ 2 ∷ 2 ∷ 1 ∷ 1 ∷ 1 ∷ []) ++ zeros 4 } }
     -- F: no points
     ∷ record { asked = forward [] 0; says = done 0 0 0 0 [] }
-    -- G, H, I: refused
+    -- G, H: refused
     ∷ record { asked = forward plateG 1; says = refuses 6 2 (sevens 4) (sevens 6) }
     ∷ record { asked = forward plateH 1; says = refuses 7 1 (sevens 4) (sevens 8) }
-    ∷ record { asked = forward plateI 1; says = refuses 5 4 (sevens 4) (sevens 16) }
+    -- I: E's list, with room for 1, and a step, which still refuses it
+    ∷ record { asked = forward plateI 2; says = done 8 2 2 8 (map pos (0 ∷ 0 ∷ 1 ∷ 1 ∷ 1 ∷ 1 ∷ 1 ∷ 1 ∷ [])) }
+    ∷ record { asked = forward plateI 1; says = refuses 8 2 (sevens 4) (zeros 16) }
+    ∷ record { asked = oneStep plateI; says = record { numbers = map pos (5 ∷ 4 ∷ []); out = []; work = plateI } }
     -- J, and its right side one unit further
     ∷ record { asked = forward (plateJ highEnd) 1; says = done 4 1 4_000_000_000_000_000_000 8_000_000_000 (lowEnd ∷ lowEnd ∷ pos 2_000_000_000 ∷ pos 2_000_000_000 ∷ []) }
     ∷ record { asked = forward (plateJ (pos 1_000_000_001)) 1; says = refuses 4 1 (sevens 4) (sevens 8) }

@@ -7,22 +7,28 @@ use mathlib.Core.List.{List, [], _∷_, _++_}
 use lib.ListN.{length, take}
 use lib.IntN.{ℤ}
 use lib.Dec.{eqb}
+use Rattle.plane.specs.declared.Point.{Point}
 use Rattle.plane.specs.declared.Rect.{Rect}
 use Rattle.plane.specs.Lists.{sum}
 use Rattle.plane.specs.Words.{mostPoints, pointsOf, rectSize, rectsOf, flatRects, areaOf}
 use Rattle.plane.specs.Edge.{edgeLength}
+use Rattle.plane.specs.Remaining.{Balanced, remaining}
 use Rattle.entry.specs.Checks.{Check, Verdict, accepted, refused, verdict}
 use Rattle.entry.specs.Entry.{ifAccepted, numberIn, placeIn, written}
 use Rattle.rule.specs.declared.ForwardAnswer.{ForwardAnswer}
 use Rattle.rule.specs.Rule.{ruleList}
-use Rattle.rule.specs.Rows.{LENGTH, MANY, WORK, ROOM, pointChecks, Accepted}
+use Rattle.rule.specs.Rows.{LENGTH, MANY, WORK, ROOM, balanceChecks}
 use Rattle.rule.specs.Working.{workOf}
 
--- the list: the rule's, of the array's points
-abbrev pub forwardList : (a : List ℤ) → List Rect
-forwardList a = ruleList (pointsOf a)
+-- the points that remain of the array's
+abbrev pub pointsRemaining : (a : List ℤ) → List Point
+pointsRemaining a = remaining (pointsOf a)
 
--- what is said beside a list: how many rectangles, their area, and the edge of the points
+-- the list: the rule's, of the points that remain
+abbrev pub forwardList : (a : List ℤ) → List Rect
+forwardList a = ruleList (pointsRemaining a)
+
+-- what is said beside a list: how many rectangles, their area, and the edge of the points that remain
 pub record Sums : Type 0 where
   pub count : ℕ
   pub area : ℕ
@@ -34,11 +40,11 @@ sumsOf rs edge = record { count = length rs; area = sum areaOf rs; edge = edge }
 
 -- forward's, of the array
 abbrev pub forwardSums : (a : List ℤ) → Sums
-forwardSums a = sumsOf (forwardList a) (edgeLength (pointsOf a))
+forwardSums a = sumsOf (forwardList a) (edgeLength (pointsRemaining a))
 
--- what it checks before the list is known: 1, 2, 3, 4, 5, 6, 7
+-- what it checks before the list is known, of the points as given: 1, 2, 3, 4, 6, 7
 unfoldable pub inputChecks : (a : List ℤ) (work : ℕ) → List Check
-inputChecks a work = LENGTH (length a) 2 ∷ MANY mostPoints (length a / 2) ∷ WORK work (length a / 2) ∷ pointChecks (pointsOf a)
+inputChecks a work = LENGTH (length a) 2 ∷ MANY mostPoints (length a / 2) ∷ WORK work (length a / 2) ∷ balanceChecks (pointsOf a)
 
 -- what it checks: the same, and then 8
 unfoldable pub forwardChecks : (a : List ℤ) (work out : ℕ) → List Check
@@ -49,7 +55,7 @@ pub record ForwardAccepted (a : List ℤ) (work out : ℕ) : Type 0 where
   pub even : length a % 2 ≡ 0
   pub few : length a / 2 ≤ mostPoints
   pub working : 2 * (length a / 2) ≤ work
-  pub points : Accepted (pointsOf a)
+  pub points : Balanced (pointsOf a)
   pub room : forwardSums a .count ≤ out / rectSize
 
 -- on 0 the sums; on a refusal all but answer and place are 0
@@ -68,7 +74,7 @@ forwardAnswer a work out = forwardSays (verdict (forwardChecks a work out)) (for
 unfoldable pub forwardOut : (a : List ℤ) (work : ℕ) (out : List ℤ) → List ℤ
 forwardOut a work out = written (verdict (forwardChecks a work (length out))) (flatRects (forwardList a)) out
 
--- with 0 and 8 the first 2n numbers are 0 and the rest unchanged; with any other refusal untouched
+-- with 0 and 8 the first 2n numbers, two for each point given, are 0 and the rest unchanged; with any other refusal untouched
 abbrev pub drained : Verdict → (n : ℕ) (work : List ℤ) → List ℤ
 drained accepted n work = workOf n [] work
 drained (refused k p) n work = cond (eqb k 8) (workOf n [] work) work

@@ -65,21 +65,26 @@ DRAINED points = whole 10 0 (eqb points 0)
 abbrev pub TEXT : (lines : ℕ) (bad : ℕ → Bool) → Check
 TEXT lines bad = each 11 lines bad
 
--- what forward and a step ask of the points themselves: 4, 5, 6, 7
+-- what forward asks of the points themselves: 4, 6, 7
+unfoldable pub balanceChecks : List Point → List Check
+balanceChecks ps = RANGE ps ∷ ROW ps ∷ COLUMN ps ∷ []
+
+-- what a step asks of them: 4, 5, 6, 7
 unfoldable pub pointChecks : List Point → List Check
 pointChecks ps = RANGE ps ∷ REPEATED ps ∷ ROW ps ∷ COLUMN ps ∷ []
 
--- the same, and before it whether they are too many: 2, 4, 5, 6, 7
-unfoldable pub fewChecks : List Point → List Check
-fewChecks ps = MANY mostPoints (length ps) ∷ pointChecks ps
+-- before such checks, whether they are too many: 2
+abbrev pub fewThen : (checks : List Point → List Check) → List Point → List Check
+fewThen checks ps = MANY mostPoints (length ps) ∷ checks ps
 
 -- the edge of the points, or what is refused of them
-abbrev pub pointsSay : List Point → Counted
-pointsSay ps = counted (verdict (fewChecks ps)) (edgeLength ps)
+abbrev pub pointsSay : (checks : List Point → List Check) → List Point → Counted
+pointsSay checks ps = counted (verdict (fewThen checks ps)) (edgeLength ps)
 
 -- ---- What is accepted
 
--- points that forward and a step accept: in range, none twice, every row and every column with an even count
+-- points that a step accepts: in range, none twice, every row and every column with an even count; forward's may be there more than once
+-- (`Balanced`, in the crate `plane`)
 pub record Accepted (ps : List Point) : Type 0 where
   pub range : (q : Point) → In q ps → pointInRange q ≡ true
   pub once : (q : Point) → count (same q) ps ≤ 1

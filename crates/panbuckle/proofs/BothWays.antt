@@ -8,14 +8,12 @@ use mathlib.Core.List.{List, _++_}
 use lib.ListN.{length, take, drop}
 use lib.IntN.{ℤ}
 use Rattle.plane.specs.Lists.{odd}
-use Rattle.plane.specs.Words.{holds, pointsOf, flatPoints, rectsOf, inOrder, rectSize, mostRects}
-use Rattle.plane.proofs.Arrays.{points-flat}
+use Rattle.plane.specs.Words.{holds, flatPoints, rectsOf, inOrder, rectSize, mostRects}
 use Rattle.entry.specs.declared.Counted.{Counted}
 use Rattle.rule.specs.declared.ForwardAnswer.{ForwardAnswer}
-use Rattle.rule.specs.Rule.{ruleList}
 use Rattle.rule.specs.Back.{backList}
 use Rattle.rule.specs.BackwardCall.{BackwardDone}
-use Rattle.rule.specs.ForwardCall.{ForwardDone, forwardList}
+use Rattle.rule.specs.ForwardCall.{ForwardDone, pointsRemaining, forwardList}
 use Rattle.rule.proofs.Demands.{forward-then-backward, backward-then-forward, two-lists}
 use Rattle.outline.proofs.Kept as back
 use Rattle.panbuckle.specs.Calls.{BackThenForward, listAfter}
@@ -25,8 +23,9 @@ use Rattle.panbuckle.proofs.Kept.{done-list, done-numbers, done-sums, a
 
 module _ {a work out : List ℤ} {r : ForwardAnswer} {work-after out-after : List ℤ} (d : ForwardDone a work out r work-after out-after) (done : r .answer ≡ 0)
     {points : List ℤ} {s : Counted} {points-after : List ℤ} (b : BackwardDone (take (rectSize * r .count) out-after) points s points-after) where
-  -- backward of the list that forward wrote gives the input's points in order, where the list has at most 16,384 rectangles and there is room
-  pub done-then-back : r .count ≤ mostRects → length a ≤ length points → (s ≡ record { answer = 0; place = 0; count = length a / 2 }) × (points-after ≡ flatPoints (inOrder (pointsOf a)) ++ drop (length a) points)
+  -- backward of the list that forward wrote gives the points that remain of the input's in order, where the list has at most 16,384 rectangles and
+  -- there is room
+  pub done-then-back : let n = length (pointsRemaining a) in r .count ≤ mostRects → 2 * n ≤ length points → (s ≡ record { answer = 0; place = 0; count = n }) × (points-after ≡ flatPoints (inOrder (pointsRemaining a)) ++ drop (2 * n) points)
   done-then-back few room =
       let listed : r .count ≡ length (forwardList a) = rw (done-list d done) at (done-sums d done .0) in
       rw (b .answer, b .output, done-numbers d done) (forward-then-backward a (length work) (length out) points (answers-0 d done) (omega arith) room)
@@ -42,7 +41,7 @@ module _ {a : List ℤ} (t : BackThenForward a) where
   pub back-then-done : t .answer .answer ≡ 0
   back-then-done =
       let counted : t .said .count ≡ length (backList (rectsOf a)) = rw (back.done-points a (t .back) (t .done)) at (back.done-rising a (t .back) (t .done) .0) in
-      let fits : length (ruleList (backList (rectsOf a))) ≤ length (t .out) / rectSize = rw (given, points-flat (backList (rectsOf a))) at (t .room) in
+      let fits : length (forwardList (flatPoints (backList (rectsOf a)))) ≤ length (t .out) / rectSize = rw given at (t .room) in
       rw (t .forth .answer, given)
       (backward-then-forward a (length (t .points)) (length (t .work)) (length (t .out)) (back.answers-0 a (t .back) (t .done)) (omega (arith, t .few)) (omega (arith, t .working)) fits)
 

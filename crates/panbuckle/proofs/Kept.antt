@@ -14,12 +14,13 @@ use Rattle.plane.specs.Lists.{bit, count, sum, Starts}
 use Rattle.plane.specs.Words.{pointsOf, flatRects, rising, lowerLeft, areaOf, edgeOf, holds, marks, cells, rectSize}
 use Rattle.plane.specs.Edge.{edgeLength, unitSides}
 use Rattle.plane.proofs.Arrays.{length-points}
+use Rattle.plane.proofs.Remaining.{remaining-edge}
 use Rattle.plane.proofs.AtStart.{rects-layout, first-numbers, past-numbers, first-items}
 use Rattle.entry.specs.Checks.{accepted}
 use Rattle.rule.specs.declared.ForwardAnswer.{ForwardAnswer}
 use Rattle.rule.specs.declared.StepAnswer.the-variants.{Rectangle}
 use Rattle.rule.specs.Rule.{step, rowCount}
-use Rattle.rule.specs.ForwardCall.{forwardSays, forwardAnswer, ForwardDone, listOf, forwardList, forwardSums, sumsTold}
+use Rattle.rule.specs.ForwardCall.{forwardSays, forwardAnswer, ForwardDone, listOf, pointsRemaining, forwardList, forwardSums, sumsTold}
 use Rattle.rule.specs.StepCall.{stepNumber, StepDone}
 use Rattle.rule.specs.Rows.{Accepted, AcceptedRects}
 use Rattle.rule.proofs.ForwardCall.{forward-leaves}
@@ -27,9 +28,10 @@ use Rattle.rule.proofs.StepCall.{step-accepts, step-accepted, taken-step}
 use Rattle.rule.proofs.Steps.{accepted-step}
 use Rattle.rule.proofs.Working.{work-points}
 use Rattle.rule.proofs.Bound.{rule-bound}
+use Rattle.rule.proofs.Cover.{rule-covers}
 use Rattle.rule.proofs.Rising.{rule-rising, rule-rects}
 use Rattle.rule.proofs.Area.{rule-edge-seams, rule-edge-one}
-use Rattle.rule.proofs.Demands.{forward-verdict, array-accepted, forward-covers, forward-area, forward-edge, forward-canon}
+use Rattle.rule.proofs.Demands.{forward-verdict, array-balanced, array-accepted, forward-covers, forward-area, forward-edge, forward-canon}
 
 -- ---- Demand 2: the list is the one given by the rule, rectangle for rectangle
 
@@ -38,9 +40,9 @@ module _ {a work out : List ℤ} {r : ForwardAnswer} {work-after out-after : Lis
   pub answers-0 : forwardAnswer a (length work) (length out) .answer ≡ 0
   answers-0 = rw (d .answer) at done
 
-  -- the points are accepted
-  points-accepted : Accepted (pointsOf a)
-  points-accepted = array-accepted a (length work) (length out) answers-0
+  -- the points that remain are accepted
+  remaining-taken : Accepted (pointsRemaining a)
+  remaining-taken = array-accepted a (length work) (length out) answers-0
 
   -- the answer is that of the rule's list
   answers-list : r ≡ forwardSays accepted (forwardSums a)
@@ -74,20 +76,24 @@ module _ {a work out : List ℤ} {r : ForwardAnswer} {work-after out-after : Lis
   pub done-sums : let list = listOf r out-after in (r .count ≡ length list) × (r .area ≡ sum areaOf list)
   done-sums = rw (done-list, answers-list) (refl, refl)
 
-  -- n points on r different rows have at most (n/2)·(r-1) rectangles
-  pub done-bound : r .count ≤ length (pointsOf a) / 2 * (rowCount (pointsOf a) - 1)
-  done-bound = rw answers-list (rule-bound (pointsOf a) points-accepted)
+  -- n points that remain, on r different rows, have at most (n/2)·(r-1) rectangles
+  pub done-bound : r .count ≤ length (pointsRemaining a) / 2 * (rowCount (pointsRemaining a) - 1)
+  done-bound = rw answers-list (rule-bound (pointsRemaining a) remaining-taken)
 
   -- they come in strictly rising order of (Y, X), each with W and H at least 1, and X, Y, X+W, Y+H in range
   pub done-rising : let list = listOf r out-after in (rising (map lowerLeft list) ≡ true) × AcceptedRects list
-  done-rising = rw done-list (rule-rising (pointsOf a) points-accepted, rule-rects (pointsOf a) points-accepted)
+  done-rising = rw done-list (rule-rising (pointsRemaining a) remaining-taken, rule-rects (pointsRemaining a) remaining-taken)
 
   -- ---- Demand 3: the list covers exactly the marked cells, each once, and goes by them alone
 
   -- each unit cell is in exactly one rectangle if an odd number of points lie at or left of, and at or below, its lower left corner;
-  -- otherwise in none
+  -- otherwise in none: of the points as given
   pub done-covers : (x y : ℤ) → count (holds x y) (listOf r out-after) ≡ bit (marks (pointsOf a) x y)
   done-covers = rw done-list (forward-covers a (length work) (length out) answers-0)
+
+  -- and of those that remain
+  pub done-covers-remaining : (x y : ℤ) → count (holds x y) (listOf r out-after) ≡ bit (marks (pointsRemaining a) x y)
+  done-covers-remaining = rw done-list (rule-covers (pointsRemaining a) remaining-taken)
 
   -- the area is the number of marked cells
   pub done-area : r .area ≡ cells (marks (pointsOf a))
@@ -95,9 +101,13 @@ module _ {a work out : List ℤ} {r : ForwardAnswer} {work-after out-after : Lis
 
   -- ---- Request 1: the edge is the outline of the marked cells
 
-  -- on each row the points by rising x in pairs, the distances added, and the same by columns
-  pub done-edge : r .edge ≡ edgeLength (pointsOf a)
+  -- on each row the points that remain by rising x in pairs, the distances added, and the same by columns
+  pub done-edge : r .edge ≡ edgeLength (pointsRemaining a)
   done-edge = rw answers-list
+
+  -- the points as given have the same
+  pub done-edge-given : r .edge ≡ edgeLength (pointsOf a)
+  done-edge-given = done-edge ∙ remaining-edge (pointsOf a) (array-balanced a (length work) (length out) answers-0)
 
   -- that is the number of unit sides with a marked cell on exactly one side
   pub done-edge-sides : r .edge ≡ unitSides (marks (pointsOf a))
@@ -105,15 +115,15 @@ module _ {a work out : List ℤ} {r : ForwardAnswer} {work-after out-after : Lis
 
   -- it is at most the sum of 2·(W+H) over the list: where two rectangles abut, nothing counts
   pub done-edge-seams : r .edge ≤ sum edgeOf (listOf r out-after)
-  done-edge-seams = rw (done-list, done-edge) (rule-edge-seams (pointsOf a) points-accepted)
+  done-edge-seams = rw (done-list, done-edge) (rule-edge-seams (pointsRemaining a) remaining-taken)
 
   -- and for one rectangle it is 2·(W+H)
   pub done-edge-one : (q : Rect) → listOf r out-after ≡ q ∷ [] → r .edge ≡ edgeOf q
-  done-edge-one q e = done-edge ∙ rule-edge-one (pointsOf a) points-accepted q (sym done-list ∙ e)
+  done-edge-one q e = done-edge ∙ rule-edge-one (pointsRemaining a) remaining-taken q (sym done-list ∙ e)
 
 module _ {a work out : List ℤ} {r : ForwardAnswer} {work-after out-after : List ℤ} (d : ForwardDone a work out r work-after out-after)
     {b work′ out′ : List ℤ} {s : ForwardAnswer} {work′-after out′-after : List ℤ} (e : ForwardDone b work′ out′ s work′-after out′-after) where
-  -- two arrays with answer 0 get equal lists exactly when they mark the same cells, in any order of points
+  -- two arrays with answer 0 get equal lists exactly when they mark the same cells, in any order and with any repetition of points
   pub done-canon : r .answer ≡ 0 → s .answer ≡ 0 → (listOf r out-after ≡ listOf s out′-after) ↔ ((x y : ℤ) → marks (pointsOf a) x y ≡ marks (pointsOf b) x y)
   done-canon done done′ = rw (done-list d done, done-list e done′) (forward-canon a b (length work) (length out) (length work′) (length out′) (answers-0 d done) (answers-0 e done′))
 

@@ -1,7 +1,8 @@
--- Forward is the points copied in order and stepped until none remain: what the two contracts say of each other.
+-- Forward is the points that remain, copied in the order in which they are first listed, and stepped until none is left: what the two contracts say of
+-- each other.
 use mathlib.Core.Path.{_≡_, refl, sym, ap, subst, _∙_}
 use mathlib.Core.Logic.{_↔_, _⊎_, inl, inr}
-use Prim.Native.Nat.{ℕ, zero, suc, _/_, _<_, _≤_}
+use Prim.Native.Nat.{ℕ, zero, suc, _<_, _≤_}
 use native.Mathlib.Omega.{arith}
 use mathlib.Core.List.{List, [], _∷_, _++_}
 use lib.ListN.{length, drop}
@@ -16,16 +17,17 @@ use Rattle.rule.specs.declared.StepAnswer.{StepAnswer}
 use Rattle.rule.specs.declared.StepAnswer.the-variants.{Rectangle, Refused}
 use Rattle.rule.specs.Rule.{Taken, step, run, leftAfter, enough, ruleList}
 use Rattle.rule.specs.Working.{workOf}
-use Rattle.rule.specs.ForwardCall.{forwardAnswer, forwardOut, forwardWork, ForwardDone, forwardList}
+use Rattle.rule.specs.ForwardCall.{forwardAnswer, forwardOut, forwardWork, ForwardDone, pointsRemaining, forwardList}
 use Rattle.rule.specs.StepCall.{StepDone}
 use Rattle.rule.specs.Rows.{Accepted}
 use Rattle.rule.proofs.ForwardCall.{forward-accepts, forward-needs, forward-fits, forward-drained-work}
 use Rattle.rule.proofs.Steps.{accepted-step}
+use Rattle.rule.proofs.Remaining.{remaining-accepted}
 use Rattle.rule.proofs.Bound.{rule-ends}
 use Rattle.rule.proofs.Working.{work-length, work-points, work-again, work-none}
 use Rattle.rule.proofs.StepCall.{drained-step, taken-step, step-one-outcome}
 use Rattle.panbuckle.specs.Inner.{held}
-use Rattle.panbuckle.specs.Calls.{copied, Stepped, emptied, another, Reached, at-start, onward}
+use Rattle.panbuckle.specs.Calls.{copied, copies, Stepped, emptied, another, Reached, at-start, onward}
 use Rattle.panbuckle.proofs.Scan.{held-length}
 use Rattle.panbuckle.proofs.Taking.{Holds, holds-ready}
 use Rattle.panbuckle.proofs.Copied.{copied-points, copied-drained, copied-holds}
@@ -119,33 +121,33 @@ stepped-one-outcome (another {m = m} d s) (another {m = j} e t) =
 
 module _ (a work : List ℤ) (out : ℕ) (h : (forwardAnswer a (length work) out .answer ≡ 0) ⊎ (forwardAnswer a (length work) out .answer ≡ 8)) where
   -- the points copied are accepted
-  copied-accepted : Holds (copied a work) (length a / 2)
+  copied-accepted : Holds (copied a work) (copies a)
   copied-accepted = copied-holds a work (forward-fits a (length work) out h)
 
   -- so are those that calls reach
-  reached-accepted : {w : List ℤ} {n : ℕ} → Reached (copied a work) (length a / 2) w n → Holds w n
+  reached-accepted : {w : List ℤ} {n : ℕ} → Reached (copied a work) (copies a) w n → Holds w n
   reached-accepted at-start = copied-accepted
   reached-accepted (onward s d) = call-holds (reached-accepted s) d
 
   -- where forward answers 0 or 8, calls on the points copied give the list, and leave the working array as forward does
-  pub forward-stepped : Stepped (copied a work) (length a / 2) (forwardList a) (forwardWork a work out)
+  pub forward-stepped : Stepped (copied a work) (copies a) (forwardList a) (forwardWork a work out)
   unfolding ruleList
   forward-stepped =
       rw (forward-drained-work a work out h, ← copied-drained a work)
-      (stepped-run (enough (pointsOf a)) (copied a work) (length a / 2) (pointsOf a) (copied-points a work) copied-accepted (rule-ends (pointsOf a) (forward-fits a (length work) out h .points)))
+      (stepped-run (enough (pointsRemaining a)) (copied a work) (copies a) (pointsRemaining a) (copied-points a work) copied-accepted (rule-ends (pointsRemaining a) (remaining-accepted (pointsOf a) (forward-fits a (length work) out h .points))))
 
   -- each of these calls answers a rectangle or DRAINED, and DRAINED exactly when no points are left
-  pub stepped-never-refused-otherwise : {w after : List ℤ} {n : ℕ} {r : StepAnswer} → Reached (copied a work) (length a / 2) w n → StepDone w n r after → (((q : Rect) × (m : ℕ) × (r ≡ Rectangle q m)) ⊎ (r ≡ Refused 10 0)) × ((r ≡ Refused 10 0) ↔ (n ≡ 0))
+  pub stepped-never-refused-otherwise : {w after : List ℤ} {n : ℕ} {r : StepAnswer} → Reached (copied a work) (copies a) w n → StepDone w n r after → (((q : Rect) × (m : ℕ) × (r ≡ Rectangle q m)) ⊎ (r ≡ Refused 10 0)) × ((r ≡ Refused 10 0) ↔ (n ≡ 0))
   stepped-never-refused-otherwise s d = call-answers (reached-accepted s) d
 
-module _ {a work out : List ℤ} {r : ForwardAnswer} {w o : List ℤ} (d : ForwardDone a work out r w o) {rs : List Rect} {v : List ℤ} (s : Stepped (copied a work) (length a / 2) rs v) where
+module _ {a work out : List ℤ} {r : ForwardAnswer} {w o : List ℤ} (d : ForwardDone a work out r w o) {rs : List Rect} {v : List ℤ} (s : Stepped (copied a work) (copies a) rs v) where
   -- the answer is the contract's
   answers : (k : ℕ) → r .answer ≡ k → forwardAnswer a (length work) (length out) .answer ≡ k
   answers k z = rw (d .answer) at z
 
   -- on 0 forward gives the calls' rectangles: their count, their area and the edge of the points copied, the output with them, and the working array
   -- as they leave it
-  pub forward-done-stepped : r .answer ≡ 0 → (r .count ≡ length rs) × (r .area ≡ sum areaOf rs) × (r .edge ≡ edgeLength (pointsOf a)) × (o ≡ flatRects rs ++ drop (length (flatRects rs)) out) × (w ≡ v)
+  pub forward-done-stepped : r .answer ≡ 0 → (r .count ≡ length rs) × (r .area ≡ sum areaOf rs) × (r .edge ≡ edgeLength (pointsRemaining a)) × (o ≡ flatRects rs ++ drop (length (flatRects rs)) out) × (w ≡ v)
   unfolding forwardAnswer forwardOut
   forward-done-stepped z =
       let e = answers 0 z in

@@ -5,20 +5,25 @@ use mathlib.Core.List.{List, [], _∷_}
 use lib.ListN.{length, take}
 use lib.IntN.{ℤ}
 use Rattle.plane.specs.declared.Rect.{Rect}
-use Rattle.plane.specs.Lists.{atStart}
 use Rattle.plane.specs.Words.{mostPoints, rectSize}
 use Rattle.entry.specs.declared.Counted.{Counted}
 use Rattle.rule.specs.declared.ForwardAnswer.{ForwardAnswer}
 use Rattle.rule.specs.declared.StepAnswer.the-variants.{Rectangle, Refused}
-use Rattle.rule.specs.ForwardCall.{forwardList, ForwardDone, listOf}
+use Rattle.rule.specs.Working.{workOf}
+use Rattle.rule.specs.ForwardCall.{pointsRemaining, forwardList, ForwardDone, listOf}
 use Rattle.rule.specs.BackwardCall.{BackwardDone}
 use Rattle.rule.specs.StepCall.{StepDone}
 
 -- ---- Calls of step, one after another
 
--- a working array with an array's points copied in order into its start
+-- a working array into whose start the points that remain of an array are copied, in the order in which they are first listed, with zeros up to two
+-- numbers for each point given
 abbrev pub copied : (a work : List ℤ) → List ℤ
-copied a work = atStart (take (2 * (length a / 2)) a) work
+copied a work = workOf (length a / 2) (pointsRemaining a) work
+
+-- how many points are copied
+abbrev pub copies : (a : List ℤ) → ℕ
+copies a = length (pointsRemaining a)
 
 -- calls of step on a working array with n points, until one answers DRAINED: their rectangles, and the array after the last
 pub data Stepped : (work : List ℤ) (n : ℕ) → List Rect → (work-after : List ℤ) → Type 0 where

@@ -10,7 +10,7 @@ ghost use lib.IntN.{_-ℤ_};
 ghost use lib.Signed.{ltZ};
 ghost use lib.ListN.{length};
 ghost use Prim.Native.Nat.{_+_, _*_, _<_, _≤_};
-ghost use Rattle.plane.specs.Words.{origin, same, pointAt, pointsOf};
+ghost use Rattle.plane.specs.Words.{origin, pointAt, pointsOf};
 ghost use Rattle.plane.specs.Edge.{edgeLength};
 ghost use Rattle.entry.specs.Checks.{verdict};
 ghost use Rattle.entry.specs.Entry.{counted};
@@ -33,17 +33,12 @@ pub use plane::Point;
 pub use plane::Rect;
 use plane::comes_before;
 use plane::origin;
+use plane::same_point;
 pub use rule::ForwardAnswer;
 pub use rule::StepAnswer;
 use sweep::sweep_points;
 
 // ---- Points
-
-fn same_point(p: Point, q: Point) -> bool
-    ensures { λ r. ⌜ r ≡ same p q ⌝ }
-{
-    (p.x == q.x) & (p.y == q.y)
-}
 
 // The one point where the test holds, and the other where not.
 fn pick(t: bool, p: Point, q: Point) -> Point

@@ -3,7 +3,7 @@ ghost use Prim.Native.Nat.{_+_, _*_, _<_};
 ghost use mathlib.Core.Path.{_≡_};
 ghost use mathlib.Core.List.{[]};
 ghost use lib.ListN.{length};
-ghost use Rattle.plane.specs.Words.{origin, before, pointsOf, pointAt, rectSize, rectsOf, rectAt};
+ghost use Rattle.plane.specs.Words.{origin, same, before, pointsOf, pointAt, rectSize, rectsOf, rectAt};
 ghost use Rattle.plane.specs.Keys.{raised, lowered, rowStep, keyOf, pointOf};
 
 // A point of the plane.
@@ -36,8 +36,15 @@ pub const MOST_RECTS: usize = 16384;
 // How many numbers of an array a rectangle has.
 pub const RECT_SIZE: usize = 4;
 
-// ---- The order of y, then x
+// ---- Two points
 
+pub fn same_point(p: Point, q: Point) -> bool
+    ensures { λ r. ⌜ r ≡ same p q ⌝ }
+{
+    (p.x == q.x) & (p.y == q.y)
+}
+
+// In the order of y, then x.
 pub fn comes_before(p: Point, q: Point) -> bool
     ensures { λ r. ⌜ r ≡ before p q ⌝ }
 {

@@ -1,25 +1,36 @@
--- The points of an accepted array, at their places in order, stand for the array.
-use mathlib.Core.Path.{_≡_, ap, _∙_}
-use Prim.Native.Nat.{ℕ, _/_}
+-- The points that remain of an array, at the places that stand in order, stand for the array.
+use mathlib.Core.Path.{_≡_, refl, sym, ap, _∙_}
+use Prim.Native.Nat.{ℕ, _-_, _/_, _≤_}
+use native.Mathlib.Nat.{sub-zero}
 use native.Mathlib.Omega.{arith}
 use mathlib.Core.Bool.{false}
-use mathlib.Core.List.{List}
-use lib.ListN.{length}
+use mathlib.Core.List.{List, _++_, map, append-assoc}
+use lib.ListN.{length, take, length-take}
+use lib.Seq.{take-at}
 use lib.IntN.{ℤ}
 use Rattle.plane.specs.declared.Point.{Point}
-use Rattle.plane.specs.Words.{onRow, inColumn, pointsOf, inOrder}
+use Rattle.plane.specs.Lists.{atStart}
+use Rattle.plane.specs.Words.{same, onRow, inColumn, pointsOf, pointAt, inOrder}
+use Rattle.plane.specs.Remaining.{remaining}
 use Rattle.plane.proofs.Arrays.{length-points}
-use Rattle.plane.proofs.Rising.{rising-once, inOrder-rising, inOrder-of, inOrder-odd, inOrder-length}
-use Rattle.ordering.specs.Orders.{rowOrder}
-use Rattle.ordering.proofs.Orders.{order-length, row-order-points}
+use Rattle.plane.proofs.Rising.{rising-once, inOrder-rising, inOrder-of, inOrder-odd, inOrder-few}
+use Rattle.plane.proofs.Pairs.{map-off, off-length}
+use Rattle.plane.proofs.Remaining.{remaining-few, off-remaining}
+use Rattle.ordering.specs.Orders.{rowOrder, pointsAt}
+use Rattle.ordering.proofs.Orders.{order-length, order-same, order-lined}
 use Rattle.rule.specs.Rows.{Accepted}
 use Rattle.rule.specs.ForwardCall.{ForwardAccepted}
+use Rattle.rule.proofs.Remaining.{remaining-accepted}
 use Rattle.rule.proofs.Canon.{alike-list}
-use Rattle.sweep.specs.Inner.{sweptPoints, StandFor}
+use Rattle.sweep.specs.Inner.{sweptPoints, samePlace, standing, StandFor}
 
 -- the row order has as many places as there are points
 pub order-places : (a : List ℤ) {order : List ℕ} → order ≡ rowOrder (pointsOf a) → length order ≡ length a / 2
 order-places a e = ap length e ∙ order-length false (pointsOf a) ∙ length-points a
+
+-- the points at the places of the row order that stand are those that remain, in order
+standing-points : (ps : List Point) → map (pointAt ps) (standing ps (rowOrder ps)) ≡ inOrder (remaining ps)
+standing-points ps = map-off (pointAt ps) same (rowOrder ps) ∙ off-remaining ps (pointsAt ps (rowOrder ps)) (order-same false ps) (order-lined false ps)
 
 -- accepted points are accepted in order
 in-order-accepted : {ps : List Point} → Accepted ps → Accepted (inOrder ps)
@@ -30,15 +41,25 @@ in-order-accepted {ps} acc = record {
   columns = λ x. inOrder-odd (inColumn x) ps (acc .once) ∙ acc .columns x;
 }
 
--- the points of the row order stand for the array
-pub order-stands : {a : List ℤ} {work out : ℕ} {order : List ℕ} → ForwardAccepted a work out → order ≡ rowOrder (pointsOf a) → StandFor a work order
+-- the places of the row order that stand do so for the array
+pub order-stands : {a : List ℤ} {work out : ℕ} {order : List ℕ} → ForwardAccepted a work out → order ≡ standing (pointsOf a) (rowOrder (pointsOf a)) → StandFor a work order
 order-stands {a} {work} {out} {order} acc e =
     let ps : List Point = pointsOf a in
-    let at : sweptPoints a order ≡ inOrder ps = rw e (row-order-points ps (acc .points .once)) in
-    let many : length (inOrder ps) ≡ length a / 2 = inOrder-length ps (acc .points .once) ∙ length-points a in
-    let ordered = in-order-accepted (acc .points) in
+    let left : List Point = remaining ps in
+    let at : sweptPoints a order ≡ inOrder left = rw e (standing-points ps) in
+    let no-more : length (inOrder left) ≤ length a / 2 = omega (arith, inOrder-few left, remaining-few ps, length-points a) in
+    let taken = remaining-accepted ps (acc .points) in
+    let ordered = in-order-accepted taken in
     record {
-      ready = rw at (record { points = ordered; in-order = inOrder-rising ps; few = omega (arith, acc .few); working = omega (arith, acc .working) });
-      as-many = order-places a e;
-      same-list = rw at (alike-list (inOrder ps) ps ordered (acc .points) (record { parity = λ f. inOrder-odd f ps (acc .points .once) }));
+      ready = rw at (record { points = ordered; in-order = inOrder-rising left; few = omega (arith, acc .few); working = omega (arith, acc .working) });
+      no-more = omega (arith, ap length e, off-length (samePlace ps) (rowOrder ps), order-places a refl);
+      same-list = rw at (alike-list (inOrder left) left ordered taken (record { parity = λ f. inOrder-odd f left (taken .once) }));
     }
+
+-- an array with these at the start of its first part begins with them
+module _ (places part rest : List ℕ) {now : List ℕ} {n : ℕ} (e : now ≡ atStart places part) (m : n ≡ length places) where
+  pub starts-with : take (n - 0) (now ++ rest) ≡ places
+  starts-with = rw (e, sub-zero n, append-assoc) (take-at places _ n (sym m))
+
+  pub starts-within : n ≤ length (now ++ rest)
+  starts-within = omega (arith, ap length starts-with, length-take (n - 0) (now ++ rest))

@@ -42,6 +42,6 @@ pub kept-live : (n : ℕ) (a : List ℤ) (i : ℕ) (k : Live) → liveSize * (i 
 kept-live n a i k h = kept-four n a (liveSize * i) (k .left) (k .right) (k .row) (k .place) (omega arith)
 
 -- with its start zeroed it holds no points
-pub kept-drained : {l m n : ℕ} {before after : List ℤ} → l ≡ n → m ≡ n → KeptPast (2 * l) before after → zeroed (2 * m) after ≡ workOf n [] before
+pub kept-drained : {m n : ℕ} {before after : List ℤ} → m ≤ n → KeptPast (2 * m) before after → zeroed (2 * n) after ≡ workOf n [] before
 unfolding workOf
-kept-drained {n = n} d e k = let p = rw d at (k .same-past) in rw (e, padded-none n, length-replicate (2 * n) (pos 0), p)
+kept-drained {m} {n} h k = let p = kept-further {n = 2 * n} (omega arith) k .same-past in rw (padded-none n, length-replicate (2 * n) (pos 0), p)

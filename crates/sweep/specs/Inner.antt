@@ -2,7 +2,7 @@
 use Prim.Native.Nat.{ℕ, _+_, _-_, _*_, _/_, _<_, _≤_}
 use mathlib.Core.Path.{_≡_}
 use mathlib.Core.Logic.{_⊎_}
-use mathlib.Core.Bool.{Bool, true, not, cond}
+use mathlib.Core.Bool.{Bool, true, not, cond, _&&_}
 use mathlib.Core.List.{List, [], _++_}
 use lib.ListN.{length, getD, take, drop, set, replicate}
 use lib.IntN.{ℤ, pos, _-ℤ_}
@@ -11,7 +11,8 @@ use lib.Dec.{ltb}
 use Rattle.plane.specs.declared.Point.{Point}
 use Rattle.plane.specs.declared.Rect.{Rect}
 use Rattle.plane.specs.Lists.{bit, sum, sumBelow, atStart}
-use Rattle.plane.specs.Words.{eqZ, pointsOf, rectSize, foursOf, flatRects, rising, pointAt, mostPoints}
+use Rattle.plane.specs.Words.{eqZ, same, pointsOf, rectSize, foursOf, flatRects, rising, pointAt, mostPoints}
+use Rattle.plane.specs.Sorted.{offPairs}
 use Rattle.ordering.specs.Orders.{rowOrder, pointsAt}
 use Rattle.entry.specs.Checks.{accepted, verdict}
 use Rattle.rule.specs.declared.ForwardAnswer.{ForwardAnswer}
@@ -297,6 +298,20 @@ pub record Swept (qs : List Point) (writes : Bool) (edge : ℕ) (work before : L
   pub answer : r ≡ forwardSays accepted (sumsOf (ruleList qs) edge)
   pub output : after ≡ cond writes (atStart (flatRects (ruleList qs)) before) before
 
+-- ---- The points that remain
+
+-- two places are of equal points
+abbrev pub samePlace : List Point → (i j : ℕ) → Bool
+samePlace ps i j = same (pointAt ps i) (pointAt ps j)
+
+-- the places at i and after it are
+abbrev pub pairedAt : List Point → (order : List ℕ) → ℕ → Bool
+pairedAt ps order i = ltb (i + 1) (length order) && samePlace ps (getD order i 0) (getD order (i + 1) 0)
+
+-- places without those of equal points, dropped two by two where they stand side by side
+abbrev pub standing : List Point → (order : List ℕ) → List ℕ
+standing ps order = offPairs (samePlace ps) order
+
 -- ---- Checks
 
 -- where forward's checks before the list is known refuse nothing, places begin with those of the points in order
@@ -305,8 +320,8 @@ pub record Ordered (a : List ℤ) (work : ℕ) (order : List ℕ) : Type 0 where
 
 -- ---- The array's points
 
--- the points at places stand for all of an array: they can be swept, are as many, and have the same list
+-- the points at places stand for those that remain of an array: they can be swept, have the same list, and are no more than were given
 pub record StandFor (a : List ℤ) (work : ℕ) (order : List ℕ) : Type 0 where
   pub ready : Ready (sweptPoints a order) work
-  pub as-many : length order ≡ length a / 2
+  pub no-more : length order ≤ length a / 2
   pub same-list : ruleList (sweptPoints a order) ≡ forwardList a

@@ -1,5 +1,6 @@
 // Forward by a sweep: upward row by row, and along each row from left to right. The public function is `sweep_points`, at the end; it
 // promises what the crate `rule` says of forward.
+// The places of the points in order have equal points side by side, and these are dropped two by two: the points that remain are swept.
 // The live rectangles, begun and not ended, stand by rising x on two stacks in the working array: those left of where the sweep is at its
 // start, those right of it at its end. On a row the points and the live rectangles are walked through together. Where a point falls into a
 // live rectangle, or one begins left of it and reaches it, it ends: its rectangle is done, and its two ends are points of the row like the
@@ -12,16 +13,17 @@ ghost use lib.ListN.{length};
 ghost use lib.IntN.{pos, _-ℤ_};
 ghost use lib.Signed.{ltZ, leZ};
 ghost use Prim.Native.Nat.{_+_, _*_, _<_, _≤_};
+ghost use Rattle.plane.specs.Lists.{atStart};
 ghost use Rattle.plane.specs.Words.{eqZ, pointsOf, rectSize, flat, areaOf, mostPoints};
 ghost use Rattle.plane.specs.Edge.{edgeLength};
 ghost use Rattle.entry.specs.Checks.{verdict};
 ghost use Rattle.entry.specs.Entry.{counted};
 ghost use Rattle.rule.specs.Rule.{ruleList};
-ghost use Rattle.rule.specs.ForwardCall.{ForwardAccepted, forwardList, ForwardDone, inputChecks};
+ghost use Rattle.rule.specs.ForwardCall.{ForwardAccepted, pointsRemaining, forwardList, ForwardDone, inputChecks};
 ghost use Rattle.live.specs.Stands.{far, number};
 ghost use Rattle.sweep.specs.Inner.{putRect, liveSize, liveAt, putLive, zeroed, farPoint, farLive, nextPoint, nextLive, onRowOf, carriedPoint, nearer};
 ghost use Rattle.sweep.specs.Inner.{withOpened, startOf, cancelled, takenFrom, newLive, endPut, endPutWork, passing, carrying, leftEnd, cutTo, cutWork};
-ghost use Rattle.sweep.specs.Inner.{endedBox, atRow, Turned, sweptPoints, Ready, Underway, Advanced, Swept, Ordered, StandFor, mostBegun};
+ghost use Rattle.sweep.specs.Inner.{endedBox, atRow, Turned, sweptPoints, Ready, Underway, Advanced, Swept, pairedAt, standing, Ordered, StandFor, mostBegun};
 use checks::order_points;
 use entry::Counted;
 use entry::DONE;
@@ -37,6 +39,7 @@ use plane::Point;
 use plane::RECT_SIZE;
 use plane::Rect;
 use plane::point_at;
+use plane::same_point;
 use rule::ForwardAnswer;
 
 // ---- Where a sweep stands
@@ -532,7 +535,8 @@ fn no_list(answer: u32, place: u64) -> ForwardAnswer
     }
 }
 
-// Forward of accepted points with this edge, for which those at these places stand: counts the rectangles, and writes only where all have room.
+// Forward of points that the checks pass, with this edge, for which those at these places stand: counts the rectangles, and writes only where all have
+// room.
 fn count_then_write(
     points: &[i32],
     order: &[u16],
@@ -542,10 +546,10 @@ fn count_then_write(
 ) -> ForwardAnswer
     requires { ⌜ ForwardAccepted (now points) (length (now work)) (rectSize * length (forwardList (now points))) ⌝ }
     requires { ⌜ StandFor (now points) (length (now work)) (now order) ⌝ }
-    requires { ⌜ edge ≡ edgeLength (pointsOf (now points)) ⌝ }
+    requires { ⌜ edge ≡ edgeLength (pointsRemaining (now points)) ⌝ }
     ensures { λ r. ⌜ ForwardDone (now (points .entry)) (now (work .entry)) (now (rects .entry)) r (now (work .exit)) (now (rects .exit)) ⌝ }
 {
-    let n = order.len();
+    let n = points.len() / 2;
     let counted = sweep_all(points, order, work, rects, false, edge);
     let needed = counted.count;
     if rects.len() / RECT_SIZE < needed {
@@ -557,10 +561,45 @@ fn count_then_write(
     done
 }
 
+// ---- The points that remain
+
+// Whether the places i and i + 1 are of equal points.
+fn is_paired(points: &[i32], order: &[u16], i: usize) -> bool
+    requires { ⌜ i < length (now order) ⌝ }
+    ensures { λ r. ⌜ r ≡ pairedAt (pointsOf (now (points .entry))) (now (order .entry)) i ⌝ }
+{
+    if i + 1 < order.len() {
+        let p = point_at(points, order[i] as usize);
+        return same_point(p, point_at(points, order[i + 1] as usize));
+    }
+    false
+}
+
+// Drops places of equal points two by two, where they stand side by side. Gives how many are left at the start.
+fn drop_pairs(points: &[i32], order: &mut [u16]) -> usize
+    ensures { λ r. ⌜ r ≡ length (standing (pointsOf (now (points .entry))) (now (order .entry))) ⌝ }
+    ensures { λ r. ⌜ now (order .exit) ≡ atStart (standing (pointsOf (now (points .entry))) (now (order .entry))) (now (order .entry)) ⌝ }
+{
+    let n = order.len();
+    let mut left = 0;
+    let mut i = 0;
+    while i < n {
+        if is_paired(points, order, i) {
+            i += 2;
+        } else {
+            let place = order[i];
+            order[left] = place;
+            left += 1;
+            i += 1;
+        }
+    }
+    left
+}
+
 // ---- Checks
 
-// The edge of the points, or what forward's checks before the room is known refuse. Where nothing is refused, `order` begins with the places of
-// the points in order.
+// The edge of the points as given, or what forward's checks before the room is known refuse. Where nothing is refused, `order` begins with the places
+// of the points in order.
 fn check_input(points: &[i32], work: usize, order: &mut [u16; MOST_POINTS]) -> Counted
     ensures { λ r. ⌜ r ≡ counted (verdict (inputChecks (now (points .entry)) work)) (edgeLength (pointsOf (now (points .entry)))) ⌝ }
     ensures { λ r. ⌜ Ordered (now (points .entry)) work (now (order .exit)) ⌝ }
@@ -580,8 +619,8 @@ fn check_input(points: &[i32], work: usize, order: &mut [u16; MOST_POINTS]) -> C
 
 // ---- The public function
 
-// The rectangles of the array's points, written to `rects`, with their count, their area and the points' edge; or a refusal, which leaves
-// `rects` as it was. `points` is only read; `work` needs two numbers for each point.
+// The rectangles of the points that remain of the array's, written to `rects`, with their count, their area and the points' edge; or a refusal, which
+// leaves `rects` as it was. `points` is only read; `work` needs two numbers for each point given.
 pub fn sweep_points(points: &[i32], work: &mut [i32], rects: &mut [i32]) -> ForwardAnswer
     ensures { λ r. ⌜ ForwardDone (now (points .entry)) (now (work .entry)) (now (rects .entry)) r (now (work .exit)) (now (rects .exit)) ⌝ }
 {
@@ -591,5 +630,6 @@ pub fn sweep_points(points: &[i32], work: &mut [i32], rects: &mut [i32]) -> Forw
         return no_list(checked.answer, checked.place);
     }
     let n = points.len() / 2;
-    count_then_write(points, &order[0..n], work, rects, checked.count as u64)
+    let left = drop_pairs(points, &mut order[0..n]);
+    count_then_write(points, &order[0..left], work, rects, checked.count as u64)
 }

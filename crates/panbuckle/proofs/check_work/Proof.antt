@@ -9,7 +9,6 @@ use borrow.Author.Tests.{lt-ltb, le-ltb, eq-eqb, ne-eqb}
 use Rattle.plane.specs.Words.{mostPoints, pointsOf}
 use Rattle.plane.proofs.Arrays.{points-take}
 use Rattle.entry.specs.Checks.{judged, verdict}
-use Rattle.rule.specs.Rows.{fewChecks}
 use Rattle.rule.specs.StepCall.{stepChecks}
 use Rattle.panbuckle.proofs.check_work.Statement.{statement}
 use Rattle.panbuckle.proofs.check_work.Tie as tie
@@ -27,7 +26,7 @@ unfolding stepChecks verdict judged
 returns-3 c = simp (le-ltb _ _ (c .before .before .before .if1 .left), le-ltb _ _ (c .before .before .if2 .left), eq-eqb _ _ (c .before .if3 .taken)) (c .refusal3 .ensures)
 
 returns-4 : tie.Need-returns-4
-unfolding stepChecks fewChecks verdict judged
+unfolding stepChecks verdict judged
 returns-4 c =
     let e = c .before .before in
     let r = e .before .before .before .args in

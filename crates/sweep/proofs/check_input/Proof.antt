@@ -12,7 +12,7 @@ use Rattle.plane.proofs.Arrays.{length-points}
 use Rattle.entry.specs.Checks.{refused, verdict}
 use Rattle.entry.proofs.Verdicts.{verdict-whole}
 use Rattle.rule.specs.ForwardCall.{inputChecks}
-use Rattle.rule.specs.Rows.{fewChecks}
+use Rattle.rule.specs.Rows.{balanceChecks, fewThen}
 use Rattle.checks.proofs.Kept.{ordered-found}
 use Rattle.sweep.specs.Inner.{Ordered}
 use Rattle.sweep.proofs.check_input.Statement.{statement}
@@ -46,13 +46,13 @@ returns-3 c =
     (rw v (c .refusal3 .ensures), none-asked (s .points .now) (s .work) _ v)
 
 returns-4 : tie.Need-returns-4
-unfolding inputChecks fewChecks
+unfolding inputChecks
 returns-4 c =
     let l = c .before .before in
     let s = l .before .before .before .args in
     let a = s .points .now in
     let few : length (pointsOf a) ≤ mostPoints = omega (arith, length-points a, l .before .if2 .left) in
-    let v : verdict (inputChecks a (s .work)) ≡ verdict (fewChecks (pointsOf a)) = simp (verdict-whole, eq-eqb _ _ (l .before .before .if1 .left), le-ltb _ _ (l .before .if2 .left), le-ltb _ _ (l .if3 .left), le-ltb mostPoints (length (pointsOf a)) few) in
+    let v : verdict (inputChecks a (s .work)) ≡ verdict (fewThen balanceChecks (pointsOf a)) = simp (verdict-whole, eq-eqb _ _ (l .before .before .if1 .left), le-ltb _ _ (l .before .if2 .left), le-ltb _ _ (l .if3 .left), le-ltb mostPoints (length (pointsOf a)) few) in
     (rw v (c .order-points .ensures .0), record { in-order = λ _. rw (c .order-points .ensures .1, ← length-points a) (ordered-found (pointsOf a) _ few) })
 
 pub check-input-spec : {M : Type 1} → statement M

@@ -27,13 +27,9 @@ work s = s .args .work .now
 abbrev rects : tie.Start → List Rect
 rects s = forwardList (points s)
 
--- the places are as many as the array's points
-many : (s : tie.Start) → length (s .args .order .now) ≡ length (points s) / 2
-many s = s .pre .1 .0 .as-many
-
--- and so are the points that are swept
-swept : (s : tie.Start) → length (sweptPoints (points s) (s .args .order .now)) ≡ length (points s) / 2
-swept s = length-map (s .args .order .now) (pointAt (pointsOf (points s))) ∙ many s
+-- the points that are swept are no more than are given
+swept : (s : tie.Start) → length (sweptPoints (points s) (s .args .order .now)) ≤ length (points s) / 2
+swept s = omega (arith, length-map (s .args .order .now) (pointAt (pointsOf (points s))), s .pre .1 .0 .no-more)
 
 sweep-all-requires : tie.Need-sweep-all-requires
 sweep-all-requires c κs = (c .before .before .before .pre .1 .0 .ready, λ e. clash e refl)
@@ -53,7 +49,7 @@ zero-start-requires : tie.Need-zero-start-requires
 zero-start-requires c κs =
     let d = c .before .before .before .before in
     let s = start-of d in
-    omega (arith, many s, s .pre .0 .working, d .sweep-all .ensures .kept .same-length)
+    omega (arith, s .pre .0 .working, d .sweep-all .ensures .kept .same-length)
 
 returns : tie.Need-returns
 unfolding forwardAnswer forwardWork forwardOut
@@ -65,7 +61,7 @@ returns c =
     let v = forward-lacks-room (points s) (length (work s)) (length (s .args .rects .now)) (length (rects s)) .1 (s .pre .0, refl, l) in
     record {
       answer = rw (v, ← needed d) (c .no-list .ensures);
-      working = rw v (z .zero-start .ensures ∙ kept-drained (swept s) (many s) (d .sweep-all .ensures .kept));
+      working = rw v (z .zero-start .ensures ∙ kept-drained (swept s) (d .sweep-all .ensures .kept));
       output = rw v (d .sweep-all .ensures .output);
     }
 
@@ -94,7 +90,7 @@ zero-start-requires-2 : tie.Need-zero-start-requires-2
 zero-start-requires-2 c κs =
     let e = c .before .before .before in
     let s = start-of (counted (room-of e)) in
-    omega (arith, many s, s .pre .0 .working, kept e .same-length)
+    omega (arith, s .pre .0 .working, kept e .same-length)
 
 returns-2 : tie.Need-returns-2
 unfolding forwardAnswer forwardWork forwardOut
@@ -107,7 +103,7 @@ returns-2 c =
     let v = forward-accepted (points s) (length (work s)) (length (s .args .rects .now)) .1 (accepted-with-room (s .pre .0) (has-room o)) in
     record {
       answer = rw (v, ← s .pre .1 .1, ← s .pre .1 .0 .same-list) (e .sweep-all2 .ensures .answer);
-      working = rw v (z .zero-start2 .ensures ∙ kept-drained (swept s) (many s) (kept e));
+      working = rw v (z .zero-start2 .ensures ∙ kept-drained (swept s) (kept e));
       output = rw (v, ← d .sweep-all .ensures .output, ← s .pre .1 .0 .same-list) (e .sweep-all2 .ensures .output);
     }
 

@@ -1,8 +1,8 @@
 """Runs the program picture over the examples and the pairs, and holds what it draws to what fracture prints of the same input.
 
 Each picture is read as XML. The rectangles must be those of the list, in its order and with its numbers, and the points those of the input,
-each where a plain computation puts it; a refusal must be said, and the point that it names marked. Pictures that stand in examples/ must
-be what the program draws. `rt ci` before has built both programs.
+each where a plain computation puts it, and hollow exactly where it is listed an even number of times; a refusal must be said, and the point
+that it names marked. Pictures that stand in examples/ must be what the program draws. `rt ci` before has built both programs.
 
 Each fault is printed on a line. The last line is 'N passed, M failed', and the exit status is 0 exactly when M is 0.
 """
@@ -10,6 +10,7 @@ Each fault is printed on a line. The last line is 'N passed, M failed', and the 
 import subprocess
 import sys
 import xml.etree.ElementTree as xml
+from collections import Counter
 from pathlib import Path
 
 from counting import report
@@ -82,6 +83,16 @@ def list_fault(picture, view, rects):
     return None
 
 
+def points_fault(picture, view, points):
+    """What is wrong with the points, or None."""
+    dots, times = group(picture, "points"), Counter(points)
+    if [numbers(dot, "cx", "cy") for dot in dots] != [view.place(*point) for point in points]:
+        return "the points are not the input's"
+    if [dot.get("class") for dot in dots] != ["gone" if times[point] % 2 == 0 else None for point in points]:
+        return "the hollow points are not those listed an even number of times"
+    return None
+
+
 def mark_fault(picture, view, place):
     """What is wrong with the mark of the point that is refused, if any is, or None."""
     rings = [numbers(ring, "cx", "cy") for ring in picture.findall(f"{SVG}circle") if ring.get("class") == "bad"]
@@ -99,11 +110,10 @@ def fault_of(data):
     number, at = (int(lines[0].split()[1]), int(lines[0].split()[3])) if refused else (0, 0)
     points = [] if number in (2, 11) else [tuple(map(int, line.split())) for line in data.decode("ascii").splitlines()]
     view = View(points)
-    dots = [numbers(dot, "cx", "cy") for dot in group(picture, "points")]
     faults = [
         None if len(drawn) <= MOST_DRAWN else "the picture is too long",
         None if picture.get("viewBox").split()[3] == str(view.height + 10_000) else "the picture's height is wrong",
-        None if dots == [view.place(*point) for point in points] else "the points are not the input's",
+        points_fault(picture, view, points),
         list_fault(picture, view, [tuple(map(int, line.split())) for line in lines[1:]]),
         mark_fault(picture, view, points[at] if 4 <= number <= 7 else None),
         None if said(picture, "said") == lines[:1] else f"it says {said(picture, 'said')} instead of {lines[0]!r}",

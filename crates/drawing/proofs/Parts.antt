@@ -2,13 +2,15 @@
 use Prim.Native.Nat.{ℕ, suc, _+_, _*_, _^_, _≤_, _<_}
 use native.Mathlib.Omega.{arith}
 use mathlib.Core.Path.{_≡_, refl, sym, ap, _∙_}
+use mathlib.Core.Bool.{Bool}
 use mathlib.Core.List.{List, [], _∷_, _++_, append-assoc, append-nil}
 use lib.ListN.{length, take, length-append}
 use lib.Seq.{take-suc, length-take-le}
 use lib.Dec.{eqb}
 use Rattle.plane.specs.declared.Point.{Point}
 use Rattle.plane.specs.declared.Rect.{Rect}
-use Rattle.plane.specs.Words.{pointAt, rectAt}
+use Rattle.plane.specs.Lists.{odd}
+use Rattle.plane.specs.Words.{same, pointAt, rectAt}
 use Rattle.plane.specs.Keys.{raised}
 use Rattle.plane.proofs.Bools.{cond-case}
 use Rattle.rule.specs.ForwardCall.{Sums}
@@ -35,9 +37,11 @@ pub block-length : (number : ℕ) (b : Box) → number < 10_000 → IsSmall b �
 unfolding blockOf
 block-length number b h s = let size = size-most b in filled-most 5 _ _ (omega arith) (omega arith)
 
-pub dot-length : (v : View) (radius : ℕ) (p : Point) → v .height ≤ 100_000 → radius ≤ 300 → length (dotOf v radius p) ≤ 60
+pub dot-length : (v : View) (radius : ℕ) (stands : Bool) (p : Point) → v .height ≤ 100_000 → radius ≤ 300 → length (dotOf v radius stands p) ≤ 62
 unfolding dotOf
-dot-length v radius p h r = filled-most 5 _ _ (omega (arith, across-most v (raised (p .x)), down-most v (raised (p .y)))) (omega arith)
+dot-length v radius stands p h r =
+    let P : List ℕ → Type 0 = λ t. length t + 18 ≤ 62 in
+    filled-most 5 _ _ (omega (arith, across-most v (raised (p .x)), down-most v (raised (p .y)))) (cond-case P stands (λ _. omega arith) (λ _. omega arith))
 
 pub mark-length : (v : View) (radius : ℕ) (p : Point) → v .width ≤ 100_000 → v .height ≤ 100_000 → radius ≤ 300 → length (markOf v radius p) ≤ 200
 unfolding markOf
@@ -79,21 +83,23 @@ blocks-length v from [] h n = omega arith
 blocks-length v from (r ∷ rs) h n = simp length-append (omega (arith, block-length from (boxOf v r) (omega arith) (box-small v r h), blocks-length v (suc from) rs h (omega arith)))
 
 -- the dots of two lists likewise
-dots-append : (v : View) (radius : ℕ) (ps qs : List Point) → dots v radius (ps ++ qs) ≡ dots v radius ps ++ dots v radius qs
+dots-append : (v : View) (radius : ℕ) (all ps qs : List Point) → dots v radius all (ps ++ qs) ≡ dots v radius all ps ++ dots v radius all qs
 unfolding dots
-dots-append v radius [] qs = refl
-dots-append v radius (p ∷ ps) qs = ap (λ l. dotOf v radius p ++ l) (dots-append v radius ps qs) ∙ sym (append-assoc (dotOf v radius p) (dots v radius ps) (dots v radius qs))
+dots-append v radius all [] qs = refl
+dots-append v radius all (p ∷ ps) qs =
+    let dot = dotOf v radius (odd (same p) all) p in
+    ap (λ l. dot ++ l) (dots-append v radius all ps qs) ∙ sym (append-assoc dot (dots v radius all ps) (dots v radius all qs))
 
 -- one point more is its dot more
-pub dots-next : (v : View) (radius : ℕ) (ps : List Point) (i : ℕ) → i < length ps → dots v radius (take (suc i) ps) ≡ dots v radius (take i ps) ++ dotOf v radius (pointAt ps i)
+pub dots-next : (v : View) (radius : ℕ) (all ps : List Point) (i : ℕ) → i < length ps → dots v radius all (take (suc i) ps) ≡ dots v radius all (take i ps) ++ dotOf v radius (odd (same (pointAt ps i)) all) (pointAt ps i)
 unfolding dots
-dots-next v radius ps i h = rw (take-suc ps i (pointAt [] 0) h) (dots-append v radius (take i ps) _ ∙ rw append-nil)
+dots-next v radius all ps i h = rw (take-suc ps i (pointAt [] 0) h) (dots-append v radius all (take i ps) _ ∙ rw append-nil)
 
--- each has at most 60 bytes
-dots-length : (v : View) (radius : ℕ) (ps : List Point) → v .height ≤ 100_000 → radius ≤ 300 → length (dots v radius ps) ≤ 60 * length ps
+-- each has at most 62 bytes
+dots-length : (v : View) (radius : ℕ) (all ps : List Point) → v .height ≤ 100_000 → radius ≤ 300 → length (dots v radius all ps) ≤ 62 * length ps
 unfolding dots
-dots-length v radius [] h r = omega arith
-dots-length v radius (p ∷ ps) h r = simp length-append (omega (arith, dot-length v radius p h r, dots-length v radius ps h r))
+dots-length v radius all [] h r = omega arith
+dots-length v radius all (p ∷ ps) h r = simp length-append (omega (arith, dot-length v radius (odd (same p) all) p h r, dots-length v radius all ps h r))
 
 -- ---- The picture's parts
 
@@ -101,9 +107,9 @@ pub list-part-length : (v : View) (rs : List Rect) → v .height ≤ 100_000 →
 unfolding listPart
 list-part-length v rs h n = simp length-append (omega (arith, head-length v h, blocks-length v 0 rs h (omega arith)))
 
-pub point-part-length : (v : View) (ps : List Point) → v .height ≤ 100_000 → length (pointPart v ps) ≤ 60 * length ps + 10
+pub point-part-length : (v : View) (ps : List Point) → v .height ≤ 100_000 → length (pointPart v ps) ≤ 62 * length ps + 10
 unfolding pointPart
-point-part-length v ps h = simp length-append (omega (arith, dots-length v (dotRadius (length ps)) ps h (radius-most (length ps))))
+point-part-length v ps h = simp length-append (omega (arith, dots-length v (dotRadius (length ps)) ps ps h (radius-most (length ps))))
 
 pub mark-part-length : (v : View) (ps : List Point) (r : Report) → v .width ≤ 100_000 → v .height ≤ 100_000 → length (markPart v ps r) ≤ 200
 unfolding markPart

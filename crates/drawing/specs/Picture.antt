@@ -1,15 +1,15 @@
 -- The picture's text, of the bytes that the program reads.
 use Prim.Native.Nat.{ℕ, suc, _+_, _/_}
 use mathlib.Core.Path.{_≡_}
-use mathlib.Core.Bool.{cond}
+use mathlib.Core.Bool.{Bool, cond}
 use mathlib.Core.List.{List, [], _∷_, _++_}
 use lib.ListN.{length, drop, getD}
 use lib.IntN.{ℤ}
 use lib.Dec.{eqb, leb}
 use Rattle.plane.specs.declared.Point.{Point}
 use Rattle.plane.specs.declared.Rect.{Rect}
-use Rattle.plane.specs.Lists.{atStart}
-use Rattle.plane.specs.Words.{flatPoints}
+use Rattle.plane.specs.Lists.{odd, atStart}
+use Rattle.plane.specs.Words.{same, flatPoints}
 use Rattle.plane.specs.Keys.{raised}
 use Rattle.entry.specs.Entry.{ifAccepted}
 use Rattle.entry.specs.Checks.{Verdict, refused, verdict}
@@ -41,7 +41,7 @@ filled (c ∷ cs) ns = cond (eqb c blank) (decimal (getD ns 0 0) ++ filled cs (d
 unfoldable pub headOf : View → List ℕ
 headOf v =
     filled
-    (ascii "<svg xmlns='http://www.w3.org/2000/svg' width='1040' height='@' viewBox='-@ -8000 104000 @'>\n<style>.paper{fill:white}.list rect{fill:lightsteelblue;stroke:navy;stroke-width:40}.list text{font-family:sans-serif;text-anchor:middle;fill:black}.points circle{fill:black}.bad{fill:none;stroke:red;stroke-width:150}.said{font:2400px sans-serif}.why{font:1500px sans-serif}</style>\n<rect class='paper' x='-@' y='-8000' width='104000' height='@'/>\n<g class='list'>\n")
+    (ascii "<svg xmlns='http://www.w3.org/2000/svg' width='1040' height='@' viewBox='-@ -8000 104000 @'>\n<style>.paper{fill:white}.list rect{fill:lightsteelblue;stroke:navy;stroke-width:40}.list text{font-family:sans-serif;text-anchor:middle;fill:black}.points circle{fill:black}.points .gone{fill:white;stroke:black;stroke-width:60}.bad{fill:none;stroke:red;stroke-width:150}.said{font:2400px sans-serif}.why{font:1500px sans-serif}</style>\n<rect class='paper' x='-@' y='-8000' width='104000' height='@'/>\n<g class='list'>\n")
     (((v .height + 10_000) / 100) ∷ (freeBeside v + 2000) ∷ (v .height + 10_000) ∷ (freeBeside v + 2000) ∷ (v .height + 10_000) ∷ [])
 
 -- a rectangle with its number in the middle
@@ -56,14 +56,17 @@ unfoldable pub blocks : View → (from : ℕ) → List Rect → List ℕ
 blocks v from [] = []
 blocks v from (r ∷ rs) = blockOf from (boxOf v r) ++ blocks v (suc from) rs
 
--- a point
-unfoldable pub dotOf : View → (radius : ℕ) → Point → List ℕ
-dotOf v radius p = filled (ascii "<circle cx='@' cy='@' r='@'/>\n") (across v (raised (p .x)) ∷ down v (raised (p .y)) ∷ radius ∷ [])
+-- a point: filled if it stands, hollow if it cancels
+unfoldable pub dotOf : View → (radius : ℕ) → (stands : Bool) → Point → List ℕ
+dotOf v radius stands p =
+    filled
+    (cond stands (ascii "<circle cx='@' cy='@' r='@'/>\n") (ascii "<circle class='gone' cx='@' cy='@' r='@'/>\n"))
+    (across v (raised (p .x)) ∷ down v (raised (p .y)) ∷ radius ∷ [])
 
--- points
-unfoldable pub dots : View → (radius : ℕ) → List Point → List ℕ
-dots v radius [] = []
-dots v radius (p ∷ ps) = dotOf v radius p ++ dots v radius ps
+-- points, beside all that are given: one that is listed an odd number of times stands, and any other cancels
+unfoldable pub dots : View → (radius : ℕ) → (all ps : List Point) → List ℕ
+dots v radius all [] = []
+dots v radius all (p ∷ ps) = dotOf v radius (odd (same p) all) p ++ dots v radius all ps
 
 -- the mark of a point: its row, its column and a ring
 unfoldable pub markOf : View → (radius : ℕ) → Point → List ℕ
@@ -92,7 +95,7 @@ listPart v rs = headOf v ++ (blocks v 0 rs ++ ascii "</g>\n<g class='points'>\n"
 
 -- the points
 unfoldable pub pointPart : View → List Point → List ℕ
-pointPart v ps = dots v (dotRadius (length ps)) ps ++ ascii "</g>\n"
+pointPart v ps = dots v (dotRadius (length ps)) ps ps ++ ascii "</g>\n"
 
 -- the mark of the point that a refusal names
 unfoldable pub markPart : View → List Point → Report → List ℕ

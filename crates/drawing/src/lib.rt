@@ -4,8 +4,8 @@ ghost use Prim.Native.Nat.{_+_, _-_, _*_, _<_, _≤_, min, max};
 ghost use mathlib.Core.Path.{_≡_};
 ghost use lib.ListN.{length, take, getD};
 ghost use lib.Dec.{eqb};
-ghost use Rattle.plane.specs.Lists.{bit};
-ghost use Rattle.plane.specs.Words.{pointsOf, rectsOf, rectSize};
+ghost use Rattle.plane.specs.Lists.{bit, odd};
+ghost use Rattle.plane.specs.Words.{same, pointsOf, rectsOf, rectSize};
 ghost use Rattle.plane.specs.Keys.{raised};
 ghost use Rattle.rule.specs.ForwardCall.{sumsTold, listOf};
 ghost use Rattle.numerals.specs.Inner.{Wrote};
@@ -302,7 +302,7 @@ fn put_head(out: &mut [u8], v: View) -> usize
     fill(
         out,
         0,
-        b"<svg xmlns='http://www.w3.org/2000/svg' width='1040' height='@' viewBox='-@ -8000 104000 @'>\n<style>.paper{fill:white}.list rect{fill:lightsteelblue;stroke:navy;stroke-width:40}.list text{font-family:sans-serif;text-anchor:middle;fill:black}.points circle{fill:black}.bad{fill:none;stroke:red;stroke-width:150}.said{font:2400px sans-serif}.why{font:1500px sans-serif}</style>\n<rect class='paper' x='-@' y='-8000' width='104000' height='@'/>\n<g class='list'>\n",
+        b"<svg xmlns='http://www.w3.org/2000/svg' width='1040' height='@' viewBox='-@ -8000 104000 @'>\n<style>.paper{fill:white}.list rect{fill:lightsteelblue;stroke:navy;stroke-width:40}.list text{font-family:sans-serif;text-anchor:middle;fill:black}.points circle{fill:black}.points .gone{fill:white;stroke:black;stroke-width:60}.bad{fill:none;stroke:red;stroke-width:150}.said{font:2400px sans-serif}.why{font:1500px sans-serif}</style>\n<rect class='paper' x='-@' y='-8000' width='104000' height='@'/>\n<g class='list'>\n",
         &numbers,
     )
 }
@@ -358,24 +358,53 @@ fn line_of(v: View, p: Point) -> u64
     line(v, raise(p.y))
 }
 
-fn put_dot(out: &mut [u8], at: usize, v: View, radius: u64, p: Point) -> usize
-    requires { ⌜ ShowsAll v × (radius ≤ 300) × (at + 60 ≤ length (now out)) ⌝ }
-    ensures { λ r. ⌜ Wrote (now (out .entry)) at (dotOf v radius p) r (now (out .exit)) ⌝ }
+fn same_point(p: Point, q: Point) -> bool
+    ensures { λ r. ⌜ r ≡ same p q ⌝ }
+{
+    (p.x == q.x) & (p.y == q.y)
+}
+
+// Whether p is listed an odd number of times.
+fn stands(points: &[i32], p: Point) -> bool
+    ensures { λ r. ⌜ r ≡ odd (same p) (pointsOf (now (points .entry))) ⌝ }
+{
+    let n = points.len() / 2;
+    let mut odd = false;
+    let mut i = 0;
+    while i < n {
+        odd = odd ^ same_point(p, point_at(points, i));
+        i += 1;
+    }
+    odd
+}
+
+fn put_dot(out: &mut [u8], at: usize, v: View, radius: u64, stands: bool, p: Point) -> usize
+    requires { ⌜ ShowsAll v × (radius ≤ 300) × (at + 62 ≤ length (now out)) ⌝ }
+    ensures { λ r. ⌜ Wrote (now (out .entry)) at (dotOf v radius stands p) r (now (out .exit)) ⌝ }
 {
     let numbers: [u64; 3] = [column_of(v, p), line_of(v, p), radius];
-    fill(out, at, b"<circle cx='@' cy='@' r='@'/>\n", &numbers)
+    if stands {
+        return fill(out, at, b"<circle cx='@' cy='@' r='@'/>\n", &numbers);
+    }
+    fill(
+        out,
+        at,
+        b"<circle class='gone' cx='@' cy='@' r='@'/>\n",
+        &numbers,
+    )
 }
 
 fn put_dots(out: &mut [u8], at: usize, v: View, points: &[i32]) -> usize
-    requires { ⌜ ShowsAll v × (at + 30 * length (now points) ≤ length (now out)) ⌝ }
-    ensures { λ r. ⌜ Wrote (now (out .entry)) at (dots v (dotRadius (length (pointsOf (now (points .entry))))) (pointsOf (now (points .entry)))) r (now (out .exit)) ⌝ }
+    requires { ⌜ ShowsAll v × (at + 31 * length (now points) ≤ length (now out)) ⌝ }
+    ensures { λ r. ⌜ Wrote (now (out .entry)) at (dots v (dotRadius (length (pointsOf (now (points .entry))))) (pointsOf (now (points .entry))) (pointsOf (now (points .entry)))) r (now (out .exit)) ⌝ }
 {
     let n = points.len() / 2;
     let radius = radius_for(n);
     let mut next = at;
     let mut i = 0;
     while i < n {
-        next = put_dot(out, next, v, radius, point_at(points, i));
+        let p = point_at(points, i);
+        next = put_dot(out, next, v, radius, stands(points, p), p);
         i += 1;
     }
     next
@@ -454,7 +483,7 @@ fn put_list(out: &mut [u8], v: View, rects: &[i32], n: usize) -> usize
 }
 
 fn put_points(out: &mut [u8], at: usize, v: View, points: &[i32]) -> usize
-    requires { ⌜ ShowsAll v × (at + 30 * length (now points) + 10 ≤ length (now out)) ⌝ }
+    requires { ⌜ ShowsAll v × (at + 31 * length (now points) + 10 ≤ length (now out)) ⌝ }
     ensures { λ r. ⌜ Wrote (now (out .entry)) at (pointPart v (pointsOf (now (points .entry)))) r (now (out .exit)) ⌝ }
 {
     let a = put_dots(out, at, v, points);

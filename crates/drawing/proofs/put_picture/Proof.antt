@@ -56,13 +56,13 @@ list-ends l =
     let few = length-take (s .args .sums .count) (rectsOf (s .args .rects .now)) in
     wrote-most 520_000 (l .put-list .ensures) (list-part-length (w .view-of .result) _ (w .view-of .ensures .1 .low) (omega (arith, s .pre .1))) (omega (arith, s .pre .3))
 
-points-end : (p : tie.After-put-points) → let l = listed (p .before) in Ends 250_000 (l .put-list .last .0) (l .put-list .result) (points-in (viewed l)) (p .put-points .result) (p .put-points .last .0)
+points-end : (p : tie.After-put-points) → let l = listed (p .before) in Ends 254_000 (l .put-list .last .0) (l .put-list .result) (points-in (viewed l)) (p .put-points .result) (p .put-points .last .0)
 points-end p =
     let l = listed (p .before) in
     let w = viewed l in
     let s = start w in
     let a = s .args .points .now in
-    wrote-most 250_000 (p .put-points .ensures) (omega (arith, point-part-length (w .view-of .result) (pointsOf a) (w .view-of .ensures .1 .low), length-points a, s .pre .0)) (omega (arith, list-ends l, s .pre .3))
+    wrote-most 254_000 (p .put-points .ensures) (omega (arith, point-part-length (w .view-of .result) (pointsOf a) (w .view-of .ensures .1 .low), length-points a, s .pre .0)) (omega (arith, list-ends l, s .pre .3))
 
 mark-ends : (o : tie.After-put-offender) → let p = dotted (o .before) in Ends 200 (p .put-points .last .0) (p .put-points .result) (mark-in (viewed (listed (p .before)))) (o .put-offender .result) (o .put-offender .last .0)
 mark-ends o =

@@ -124,9 +124,10 @@ def compare_backward(bench):
 
 
 def show_refused(bench):
-    """How long refusals take."""
+    """How long refusals take, forward and in a step; and how long forward takes where all points cancel."""
     files = [bench.file(name, refused(name)) for name in REFUSED]
-    table(["refused", "points", "answer", "place", "ms"], [[name.replace("_", " "), *rest] for name, *rest in bench.rows("refused", *files)])
+    rows = [[name.replace("_", " "), *rest] for name, *rest in bench.rows("refused", *files)]
+    table(["refused", "points", "forward's answer", "place", "ms", "a step's answer", "place", "ms"], rows)
 
 
 def point_files(bench, sizes):

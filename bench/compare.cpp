@@ -1,7 +1,7 @@
 // Times Panbuckle, through its C face, beside Boost.Polygon and std::sort, on the same arrays in the same run.
 //
 //   compare forward FILE...     the points of each file ("x y" lines) to rectangles: all of forward against all of Boost's
-//   compare refused FILE...     the points of each file, which forward refuses
+//   compare refused FILE...     the points of each file, which a step refuses: forward's answer, and the step's
 //   compare step FILE...        one step: all of a step's checks, and the first rectangle
 //   compare backward NUMBER...  so many rectangles at random to their points: backward against a std::sort of their corners
 //   compare stack FILE...       how many bytes of stack forward and a step use on the points of each file
@@ -130,14 +130,21 @@ std::string name_of(const char *file) {
 // ---- Boost.Polygon
 
 // The points as edges of a set of cells, an even number of times inside out, cut into rectangles along the rows. Sorting the points, the
-// even-odd rule and the cutting are all of it; nothing is checked.
+// even-odd rule and the cutting are all of it; nothing is checked. Both sides are given the same points, those that are listed more than once
+// among them. Forward drops what cancels, and so does this, before Boost sees it: once sorted, equal points are neighbours, and two of them are
+// passed over. The sign is then what it was before them.
 void boost_fracture(const Numbers &points, std::vector<Box> &boxes) {
     std::vector<std::pair<int, int>> sorted;
     for (size_t i = 0; i < points.size(); i += 2) sorted.emplace_back(points[i + 1], points[i]);
     std::sort(sorted.begin(), sorted.end());
     boost::polygon::polygon_90_set_data<int> cells(boost::polygon::HORIZONTAL);
     int sign = 1;
-    for (auto [y, x] : sorted) {
+    for (size_t i = 0; i < sorted.size(); i++) {
+        if (i + 1 < sorted.size() && sorted[i] == sorted[i + 1]) {
+            i++;
+            continue;
+        }
+        auto [y, x] = sorted[i];
         cells.insert(std::make_pair(y, std::make_pair(x, sign)), false, boost::polygon::HORIZONTAL);
         sign = -sign;
     }
@@ -174,23 +181,40 @@ void compare_forward(const char *file) {
     std::printf("%s %zu %" PRIu64 " %.5f %.5f\n", name_of(file).c_str(), ours.points.size() / 2, ours.result[PANBUCKLE_COUNT], our_best, their_best);
 }
 
+struct Step {
+    Numbers points, work;
+    int32_t rect[4];
+    uint64_t result[3];
+
+    explicit Step(const char *file) : points(read_numbers(file)) {}
+
+    void run() {
+        work = points;
+        panbuckle_step(work.data(), work.size(), work.size() / 2, rect, result);
+    }
+};
+
+// The answer of a call, its place and its time, after a space.
+void print_answer(const uint64_t *result, double best) {
+    std::printf(" %" PRIu64 " %" PRIu64 " %.5f", result[PANBUCKLE_ANSWER], result[PANBUCKLE_PLACE], best);
+}
+
 void time_refused(const char *file) {
-    Forward ours(file);
-    double best = best_of([&] { ours.run(0); });
-    if (ours.result[PANBUCKLE_ANSWER] == PANBUCKLE_DONE) give_up(std::string(file) + " is not refused");
-    std::printf("%s %zu %" PRIu64 " %" PRIu64 " %.5f\n", name_of(file).c_str(), ours.points.size() / 2, ours.result[PANBUCKLE_ANSWER], ours.result[PANBUCKLE_PLACE], best);
+    Forward forward(file);
+    Step step(file);
+    auto [forward_best, step_best] = best_of([&] { forward.run(0); }, [&] { step.run(); });
+    if (step.result[PANBUCKLE_ANSWER] == PANBUCKLE_DONE) give_up(std::string(file) + " is not refused");
+    std::printf("%s %zu", name_of(file).c_str(), step.points.size() / 2);
+    print_answer(forward.result, forward_best);
+    print_answer(step.result, step_best);
+    std::printf("\n");
 }
 
 void time_step(const char *file) {
-    Numbers points = read_numbers(file), work;
-    int32_t rect[4];
-    uint64_t result[3];
-    double best = best_of([&] {
-        work = points;
-        panbuckle_step(work.data(), work.size(), work.size() / 2, rect, result);
-    });
-    if (result[PANBUCKLE_ANSWER] != PANBUCKLE_DONE) give_up(std::string(file) + " is refused");
-    std::printf("%s %zu %.5f\n", name_of(file).c_str(), points.size() / 2, best);
+    Step step(file);
+    double best = best_of([&] { step.run(); });
+    if (step.result[PANBUCKLE_ANSWER] != PANBUCKLE_DONE) give_up(std::string(file) + " is refused");
+    std::printf("%s %zu %.5f\n", name_of(file).c_str(), step.points.size() / 2, best);
 }
 
 struct Backward {

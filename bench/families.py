@@ -1,5 +1,5 @@
-"""The arrays that the comparison runs on: families of points that forward accepts, arrays of 4,096 points that it refuses, and families of
-rectangles, for the stack that backward uses on them.
+"""The arrays that the comparison runs on: families of points that forward accepts, arrays of 4,096 points that a step refuses, and mostly
+forward too, and families of rectangles, for the stack that backward uses on them.
 
 Every array is made from its name and size alone. The points of a family stand in no order; ORDERS has others, in which a sort may go
 deeper.
@@ -140,7 +140,31 @@ def diamond(n, _):
     return sum(widens + narrows, [])
 
 
-FAMILIES = {family.__name__: family for family in (rects, comb, stair, rings, manhattan, noise, tall_bars, crossing_bars, diamond)}
+def about(x, y, count, rng):
+    """Rectangles about a point, so many of the four that can have it for a corner."""
+    sides = [(rng.randint(1, 4), rng.randint(1, 4)) for _ in range(count)]
+    quarters = rng.sample([(0, 0), (1, 0), (0, 1), (1, 1)], count)
+    return [box(x - left * w, y - below * h, w, h) for (left, below), (w, h) in zip(quarters, sides)]
+
+
+def touching_pads(n, rng):
+    """A chessboard of pads, and beside it points about which two, three or four pads meet. Each pad lists its four corners, so that a corner is
+    listed as often as pads meet there, on the board twice."""
+    meetings = 3 * max(1, n // 128)
+    count, side = n // 4 - 3 * meetings, 1
+    while side * side < 2 * count:
+        side += 1
+    board = [(i, j) for j in range(side) for i in range(side) if (i + j) % 2 == 0]
+    pads = [box(i, j, 1, 1) for i, j in board[:count]]
+    for i in range(meetings):
+        pads += about(side + 10 * (i % 9 + 1), 10 * (i // 9), 2 + i % 3, rng)
+    return stretched(sum(pads, []), rng)
+
+
+FAMILIES = {
+    family.__name__: family
+    for family in (rects, comb, stair, rings, manhattan, noise, tall_bars, crossing_bars, diamond, touching_pads)
+}
 
 
 def family(name, n):
@@ -152,10 +176,16 @@ def family(name, n):
 
 
 def repeated_last(rng):
-    """The last point equal to the first."""
+    """The last point equal to the first, in the place of another one, whose row it leaves odd."""
     points = family("rects", MOST)
     rng.shuffle(points)
     return points[:-1] + points[:1]
+
+
+def all_twice(_):
+    """Every point twice, the second time in another order."""
+    points = family("rects", MOST // 2)
+    return [*points, *reversed(points)]
 
 
 def odd_line_last(name, line):
@@ -199,21 +229,23 @@ def splits_badly(_):
     return [(x, x) for x in bad_order(MOST)]
 
 
-# The arrays by name, and the refusal of each: REPEATED, ROW or COLUMN.
+# The arrays by name, and forward's answer and a step's to each: REPEATED, which comes from a step alone, ROW or COLUMN. Where all points cancel,
+# forward accepts them, with an empty list.
 REFUSED = {
-    "repeated_last": (repeated_last, 5),
-    "odd_row_last": (lambda _: odd_line_last("stair", 1), 6),
-    "odd_column_last": (lambda _: odd_line_last("stair", 0), 7),
-    "odd_column_last_of_bars": (lambda _: odd_line_last("tall_bars", 0), 7),
-    "one_row": (one_row, 7),
-    "one_point": (one_point, 5),
-    "equal_but_last": (equal_but_last, 5),
-    "splits_badly": (splits_badly, 6),
+    "repeated_last": (repeated_last, 6, 5),
+    "odd_row_last": (lambda _: odd_line_last("stair", 1), 6, 6),
+    "odd_column_last": (lambda _: odd_line_last("stair", 0), 7, 7),
+    "odd_column_last_of_bars": (lambda _: odd_line_last("tall_bars", 0), 7, 7),
+    "one_row": (one_row, 7, 7),
+    "one_point": (one_point, 0, 5),
+    "all_twice": (all_twice, 0, 5),
+    "equal_but_last": (equal_but_last, 6, 5),
+    "splits_badly": (splits_badly, 6, 6),
 }
 
 
 def refused(name):
-    """An array of 4,096 points that forward refuses."""
+    """An array of 4,096 points that a step refuses."""
     return REFUSED[name][0](random.Random(name))
 
 

@@ -1,6 +1,6 @@
 """Checks that the comparison of bench/ builds and runs: on small arrays of every family Boost.Polygon covers the same area, each array that
-is to be refused is refused for its reason, and the most stack that is measured is what the header says, rounded up. How long anything takes
-is not judged.
+a step is to refuse has its answer and forward's, and the most stack that is measured is what the header says, rounded up. How long anything
+takes is not judged.
 
 Each fault is printed on a line. The last line is 'N passed, M failed', and the exit status is 0 exactly when M is 0.
 """
@@ -34,9 +34,10 @@ def outcomes(bench):
         points = family(name, FEW)
         ((_, count, rects, *_),) = bench.rows("forward", bench.file(name, points))
         yield None if int(count) == len(points) <= FEW and int(rects) > 0 else f"{name}: {count} points and {rects} rectangles"
-    for name, (_, number) in REFUSED.items():
-        ((_, count, answer, *_),) = bench.rows("refused", bench.file(name, refused(name)))
-        yield None if (int(count), int(answer)) == (MOST, number) else f"{name}: answer {answer}, not {number}, to {count} points"
+    for name, (_, *wanted) in REFUSED.items():
+        ((_, count, by_forward, _, _, by_step, *_),) = bench.rows("refused", bench.file(name, refused(name)))
+        answers = [int(by_forward), int(by_step)]
+        yield None if (int(count), answers) == (MOST, wanted) else f"{name}: answers {answers}, not {wanted}, to {count} points"
     ((_, count, points, *_),) = bench.rows("backward", "16")
     yield None if (count, points) == ("16", "56") else f"backward: {points} points of {count} rectangles, and not 56"
     yield from stack_faults(most_stack(bench, (FEW,), FEW_RECTANGLES))

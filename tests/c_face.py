@@ -36,7 +36,7 @@ TOO_LONG = 3640 * b"00000000 00000000\n" + b"0000000 00000000\n"
 MOST_LINES = 200
 FEWEST_INPUTS = 90
 # So many calls does tests/refusals.c make.
-CALLS = 64
+CALLS = 65
 
 C_TYPES = {"u32": "uint32_t", "usize": "size_t", "&[i32]": "const int32_t *", "&mut [i32]": "int32_t *"}
 FIXED = re.compile(r"&mut \[(i32|u64); (\d+)\]")

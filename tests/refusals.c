@@ -84,11 +84,12 @@ static const int32_t zeros[LENT];
 static const int32_t square[8] = {0, 0, 1, 0, 0, 1, 1, 1};
 static const int32_t ring[16] = {0, 0, 4, 0, 0, 4, 4, 4, 1, 1, 3, 1, 1, 3, 3, 3};
 static const int32_t ring_list[16] = {0, 0, 4, 1, 0, 1, 1, 3, 3, 1, 1, 2, 1, 3, 3, 1};
+static const int32_t touching[16] = {0, 0, 1, 0, 0, 1, 1, 1, 1, 1, 2, 1, 1, 2, 2, 2};
+static const int32_t touching_list[8] = {0, 0, 1, 1, 1, 1, 1, 1};
 
 static void forward_calls(void)
 {
     static const int32_t far[8] = {0, 0, 1, 0, 0, 1000000001, 1, 1000000001};
-    static const int32_t twice[16] = {0, 0, 1, 0, 0, 1, 1, 1, 1, 1, 2, 1, 1, 2, 2, 2};
     static const int32_t row[6] = {0, 0, 1, 0, 0, 1};
     static const int32_t column[8] = {0, 0, 1, 0, 0, 1, 2, 1};
     static int32_t many[2 * (PANBUCKLE_MOST_POINTS + 1)];
@@ -102,22 +103,25 @@ static void forward_calls(void)
     forward_leaves("forward WORK", square, 8, 7, PANBUCKLE_WORK, 0);
     forward_leaves("forward WORK", square, 8, 0, PANBUCKLE_WORK, 0);
     forward_leaves("forward RANGE", far, 8, LENT, PANBUCKLE_RANGE, 2);
-    forward_leaves("forward REPEATED", twice, 16, LENT, PANBUCKLE_REPEATED, 4);
     forward_leaves("forward ROW", row, 6, LENT, PANBUCKLE_ROW, 2);
     forward_leaves("forward COLUMN", column, 8, LENT, PANBUCKLE_COLUMN, 1);
 }
 
-static void ring_calls(void)
+/* Eight points with a list: with room for less than it and with none, and with just the room. The working array has 16 zeros, also where two of
+ * the points are equal and cancel. */
+static void list_calls(const int32_t *points, const int32_t *list, size_t length, uint64_t area, uint64_t edge)
 {
-    static const size_t rooms[2] = {15, 0};
+    const size_t rooms[2] = {length - 1, 0};
     for (int i = 0; i < 2; i++) {
         lend();
-        uint32_t full = panbuckle_forward(ring, 16, work, LENT, lent(out, rooms[i]), rooms[i], result);
-        judge("forward ROOM", full, PANBUCKLE_ROOM, 4, 0, begins(work, zeros, 16) && untouched(out) && result[3] == 0 && result[4] == 0);
+        uint32_t full = panbuckle_forward(points, 16, work, LENT, lent(out, rooms[i]), rooms[i], result);
+        int none = untouched(out) && result[PANBUCKLE_AREA] == 0 && result[PANBUCKLE_EDGE] == 0;
+        judge("forward ROOM", full, PANBUCKLE_ROOM, length / 4, 0, begins(work, zeros, 16) && none);
     }
     lend();
-    uint32_t done = panbuckle_forward(ring, 16, work, LENT, out, 16, result);
-    judge("forward DONE", done, PANBUCKLE_DONE, 0, 4, begins(work, zeros, 16) && begins(out, ring_list, 16) && result[3] == 12 && result[4] == 24);
+    uint32_t done = panbuckle_forward(points, 16, work, LENT, out, length, result);
+    int all = begins(out, list, length) && result[PANBUCKLE_AREA] == area && result[PANBUCKLE_EDGE] == edge;
+    judge("forward DONE", done, PANBUCKLE_DONE, 0, length / 4, begins(work, zeros, 16) && all);
 }
 
 static void backward_calls(void)
@@ -190,7 +194,8 @@ static void version_call(void)
 int main(void)
 {
     forward_calls();
-    ring_calls();
+    list_calls(ring, ring_list, 16, 12, 24);
+    list_calls(touching, touching_list, 8, 2, 8);
     backward_calls();
     step_calls();
     diamond_calls(128, PANBUCKLE_DONE, 512);

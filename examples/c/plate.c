@@ -1,6 +1,6 @@
 /* Reads points from standard input, "x y" on each line, and prints their rectangles as `fracture` does; what `fracture` cannot read, it does not
- * read either. It uses the whole C face: forward makes the list, a step after the other makes it again, and backward of the list gives the
- * points back. */
+ * read either. It uses the whole C face: forward makes the list; of the points that do not cancel, a step after the other makes it again, and
+ * backward of the list gives them back. */
 #include "panbuckle.h"
 
 #include <inttypes.h>
@@ -10,6 +10,7 @@
 enum { MOST_RECTS = 3200, MOST_BYTES = 65536, MOST_DIGITS = 10 };
 
 static int32_t points[2 * PANBUCKLE_MOST_POINTS];
+static int32_t kept[2 * PANBUCKLE_MOST_POINTS];
 static int32_t work[2 * PANBUCKLE_MOST_POINTS];
 static int32_t list[4 * MOST_RECTS];
 
@@ -46,13 +47,30 @@ static int read_points(void)
     return n;
 }
 
-/* Whether steps, from the points on until none is left, give the list's rectangles one after another. */
+/* Keeps the points that are listed an odd number of times, each once, where it is first listed; the others cancel. Gives how many are kept. */
+static size_t keep_odd(size_t n)
+{
+    size_t count = 0;
+    for (size_t i = 0; i < n; i++) {
+        size_t times = 0, before = 0;
+        for (size_t j = 0; j < n; j++)
+            if (points[2 * j] == points[2 * i] && points[2 * j + 1] == points[2 * i + 1]) {
+                times++;
+                before += j < i;
+            }
+        if (times % 2 == 1 && before == 0)
+            memcpy(kept + 2 * count++, points + 2 * i, 2 * sizeof points[0]);
+    }
+    return count;
+}
+
+/* Whether steps, from the n points that are kept on until none is left, give the list's rectangles one after another. */
 static int steps_agree(size_t n, uint64_t rects)
 {
     int32_t rect[4];
     uint64_t result[3];
     size_t left = n;
-    memcpy(work, points, n * sizeof points[0] * 2);
+    memcpy(work, kept, n * sizeof kept[0] * 2);
     for (uint64_t i = 0; i < rects; i++) {
         if (panbuckle_step(work, 2 * n, left, rect, result) != PANBUCKLE_DONE)
             return 0;
@@ -63,7 +81,7 @@ static int steps_agree(size_t n, uint64_t rects)
     return panbuckle_step(work, 2 * n, left, rect, result) == PANBUCKLE_DRAINED;
 }
 
-/* Whether each of the n points is one of those that backward gives of the list, and there are no others. */
+/* Whether each of the n points that are kept is one of those that backward gives of the list, and there are no others. */
 static int backward_agrees(size_t n, uint64_t rects)
 {
     static int32_t back[2 * PANBUCKLE_MOST_POINTS];
@@ -72,7 +90,7 @@ static int backward_agrees(size_t n, uint64_t rects)
         return 0;
     for (size_t i = 0; i < n; i++) {
         size_t j = 0;
-        while (j < n && (back[2 * j] != points[2 * i] || back[2 * j + 1] != points[2 * i + 1]))
+        while (j < n && (back[2 * j] != kept[2 * i] || back[2 * j + 1] != kept[2 * i + 1]))
             j++;
         if (j == n)
             return 0;
@@ -96,7 +114,8 @@ int main(void)
     printf("rects %" PRIu64 " area %" PRIu64 " edge %" PRIu64 "\n", count, result[PANBUCKLE_AREA], result[PANBUCKLE_EDGE]);
     for (uint64_t i = 0; i < count; i++)
         printf("%" PRId32 " %" PRId32 " %" PRId32 " %" PRId32 "\n", list[4 * i], list[4 * i + 1], list[4 * i + 2], list[4 * i + 3]);
-    if (!steps_agree((size_t)n, count) || !backward_agrees((size_t)n, count)) {
+    size_t left = keep_odd((size_t)n);
+    if (!steps_agree(left, count) || !backward_agrees(left, count)) {
         fputs("plate: the steps or the way back disagree with the list\n", stderr);
         return 2;
     }

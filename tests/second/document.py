@@ -17,7 +17,7 @@ MOST_RECTS = 16384
 
 NAMES = ("done", "LENGTH", "MANY", "WORK", "RANGE", "REPEATED", "ROW", "COLUMN", "ROOM", "FLAT", "DRAINED", "TEXT")
 DONE, LENGTH, MANY, WORK, RANGE, REPEATED, ROW, COLUMN, ROOM, FLAT, DRAINED, TEXT = range(len(NAMES))
-FORWARD_ORDER = (LENGTH, MANY, WORK, RANGE, REPEATED, ROW, COLUMN, ROOM)
+FORWARD_ORDER = (LENGTH, MANY, WORK, RANGE, ROW, COLUMN, ROOM)
 BACKWARD_ORDER = (LENGTH, MANY, FLAT, RANGE, ROOM)
 STEP_ORDER = (MANY, WORK, DRAINED, RANGE, REPEATED, ROW, COLUMN)
 
@@ -50,11 +50,19 @@ def odd(count):
     return count % 2 == 1
 
 
+# ---- The points that remain: document 02, request 2
+
+
+def remaining(points):
+    """The points that are listed an odd number of times, each once, where it is first listed."""
+    return tuple(point for point, times in Counter(points).items() if odd(times))
+
+
 # ---- The forward rule
 
 
 class Rows:
-    """The points that remain: the y of their rows, lowest first, and the x of each row's points, leftmost first."""
+    """The points that are left: the y of their rows, lowest first, and the x of each row's points, leftmost first."""
 
     def __init__(self, points):
         self.row = {}
@@ -85,7 +93,7 @@ class Rows:
         return left_of_l > left_of_k or odd(left_of_k)
 
     def rectangle(self):
-        """The rectangle of the next step, from K, L and the stop row M; None where no points remain, or where there is no L or no M."""
+        """The rectangle of the next step, from K, L and the stop row M; None where no points are left, or where there is no L or no M."""
         if not self.heights or len(self.row[self.heights[0]]) < 2:
             return None
         y_k = self.heights[0]
@@ -104,8 +112,9 @@ def toggled(rect):
 
 @lru_cache(maxsize=8)
 def rectangles(points):
-    """The list of the forward rule. Of points that are not accepted it is what the rule gives for as long as there are an L and an M."""
-    rows, made = Rows(points), []
+    """Forward's list: the rule begins with the points that remain. Of points that are not accepted it is what the rule gives for as long as there
+    are an L and an M."""
+    rows, made = Rows(remaining(points)), []
     while (rect := rows.rectangle()) is not None:
         made.append(rect)
         for x, y in toggled(rect):
@@ -186,12 +195,28 @@ def placed(number, place):
     return [] if place is None else [(number, place)]
 
 
-def refusals_of_points(points):
-    """The rows of the table that speak of the points themselves."""
+def range_refusals(points):
+    """RANGE, where a point is out of range."""
     yield from placed(RANGE, first_place(not in_range(x, y) for x, y in points))
-    yield from placed(REPEATED, first_place(repetitions(points)))
+
+
+def line_refusals(points):
+    """ROW and COLUMN, where a row or a column has an odd count."""
     yield from placed(ROW, first_place(on_odd_lines([y for _, y in points])))
     yield from placed(COLUMN, first_place(on_odd_lines([x for x, _ in points])))
+
+
+def refusals_of_points(points):
+    """The rows of the table that speak of forward's points themselves, as they are given."""
+    yield from range_refusals(points)
+    yield from line_refusals(points)
+
+
+def refusals_of_held(points):
+    """The rows of the table that speak of the points that a step finds in its working array: none of these may be repeated."""
+    yield from range_refusals(points)
+    yield from placed(REPEATED, first_place(repetitions(points)))
+    yield from line_refusals(points)
 
 
 def forward_refusals(points, work, rects):
@@ -217,7 +242,7 @@ def step_refusals(work, count):
         yield WORK, 0
     if count == 0:
         yield DRAINED, 0
-    yield from refusals_of_points(points_of(work[: 2 * count]))
+    yield from refusals_of_held(points_of(work[: 2 * count]))
 
 
 def backward_refusals(rects, points):
@@ -238,15 +263,16 @@ def backward_refusals(rects, points):
 
 
 def forward(points, work, rects):
-    """Forward: answer, place, count of rectangles, area and edge."""
+    """Forward: answer, place, count of rectangles, area and edge. The working array has two zeros per point given, whether it remains or not."""
     answer, place = next(forward_refusals(points, work, rects), (DONE, 0))
     if answer in (DONE, ROOM):
         work[: len(points)] = [0] * len(points)
     if answer != DONE:
         return answer, place, 0, 0, 0
-    made = rectangles(points_of(points))
+    given = points_of(points)
+    made = rectangles(given)
     rects[: 4 * len(made)] = numbers_of(made)
-    return DONE, 0, len(made), sum(w * h for _, _, w, h in made), outline_length(points_of(points))
+    return DONE, 0, len(made), sum(w * h for _, _, w, h in made), outline_length(remaining(given))
 
 
 def step(work, count):

@@ -1,4 +1,5 @@
-"""The arrays that are made to stand at an edge: of a length, of the range, of two refusals, of the library's search for the stop row.
+"""The arrays that are made to stand at an edge: of a length, of the range, of two refusals, of points that vanish, of the library's search for
+the stop row.
 
 Each function gives groups: the calls that are made with one array, all of one function.
 """
@@ -8,7 +9,7 @@ from itertools import combinations, product
 from random import Random
 
 import document
-from document import COLUMN, DRAINED, FLAT, HIGHEST, LENGTH, LOWEST, MANY, MOST_POINTS, MOST_RECTS, RANGE, REPEATED, ROOM, ROW, WORK
+from document import COLUMN, DONE, DRAINED, FLAT, HIGHEST, LENGTH, LOWEST, MANY, MOST_POINTS, MOST_RECTS, RANGE, REPEATED, ROOM, ROW, WORK
 from document import Rows, numbers_of, points_of, rects_of, toggled
 from families import HIGHEST_I32, LOWEST_I32, SEED, bars, cells, comb, crossing, diamond, rings, stairs
 from families import near_zero, odd_corners, placed_rects, shuffled, step_group
@@ -108,6 +109,52 @@ def pair_groups():
     return ([one] for _, one in pairs())
 
 
+# ---- Points that vanish
+
+SQUARE = ((0, 0), (1, 0), (0, 1), (1, 1))
+TOUCHING = (*SQUARE, (1, 1), (2, 1), (1, 2), (2, 2))
+
+
+def forward_of(points, cut=0):
+    """Forward on points, with a working array that is so many numbers too short for them."""
+    return call("forward", read(numbers_of(points)), lent(2 * len(points) - cut), lent(PLENTY))
+
+
+def step_of(points):
+    """A step on points."""
+    return call("step", lent(2 * len(points), numbers_of(points)), len(points))
+
+
+def vanishing():
+    """Calls on points of which some are listed more than once, each with its answer, its place and its count; run_test.py has the definition say
+    so. What a check says is of the points as they are given, and so are all lengths."""
+    yield (DONE, 0, 0), forward_of([(5, 5)] * MOST_POINTS)
+    yield (DONE, 0, 1), forward_of([*SQUARE, *[(5, 5)] * (MOST_POINTS - 4)])
+    yield (DONE, 0, 1), forward_of([*SQUARE[:3], *[(1, 1)] * (MOST_POINTS - 3)])
+    yield (DONE, 0, 0), forward_of([(x, x) for x in (*range(MOST_POINTS // 2), *reversed(range(MOST_POINTS // 2)))])
+    for more in (1, 2):
+        yield (MANY, 0, 0), forward_of([*SQUARE, *[(5, 5)] * (MOST_POINTS - 4 + more)])
+    for cut in (1, 2, 3, 4, 5, 16):
+        yield (WORK, 0, 0), forward_of(TOUCHING, cut)
+    yield (WORK, 0, 0), forward_of([(5, 5)] * MOST_POINTS, 1)
+    for far in ((HIGHEST + 1, 1), (1, LOWEST - 1)):
+        yield (RANGE, 4, 0), forward_of([*SQUARE, far, far])
+        yield (RANGE, 0, 0), forward_of([far, *SQUARE, far])
+    yield (ROW, 2, 0), forward_of([(7, 7), (7, 7), (9, 0), *SQUARE[:3], (9, 0), SQUARE[3], (5, 0), (5, 1), (8, 1)])
+    yield (ROW, 0, 0), forward_of([(1, 1), *TOUCHING])
+    yield (COLUMN, 1, 0), forward_of([(7, 7), (0, 9), (7, 7), *SQUARE, (0, 9), (0, 1), (5, 1)])
+    yield (COLUMN, 0, 0), forward_of([(1, 1), *TOUCHING, (2, 1)])
+    yield (REPEATED, 1, 0), step_of([(5, 5)] * MOST_POINTS)
+    yield (REPEATED, MOST_POINTS - 1, 0), step_of([(x, x) for x in (*range(MOST_POINTS - 1), 0)])
+    yield (REPEATED, 4, 0), step_of(TOUCHING)
+    yield (RANGE, 0, 0), step_of([(HIGHEST + 1, 1), *SQUARE, (HIGHEST + 1, 1)])
+
+
+def vanishing_groups():
+    """The calls on points of which some are listed more than once."""
+    return ([one] for _, one in vanishing())
+
+
 # ---- Ends of the range
 
 LOW_ENDS = (LOWEST_I32, LOWEST_I32 + 1, LOWEST - 1, LOWEST, -1, 0)
@@ -179,7 +226,7 @@ def stop_groups():
 
 
 def after_steps(points, steps):
-    """The points that remain after so many steps of the rule, in order."""
+    """The points that are left after so many steps of the rule, in order."""
     rows = Rows(points)
     for _ in range(steps):
         for x, y in toggled(rows.rectangle()):

@@ -3,7 +3,7 @@
 Each function gives groups: the calls that are made with one array, all of one function.
 """
 
-from itertools import chain, combinations
+from itertools import chain, combinations, product
 from random import Random
 
 import document
@@ -18,6 +18,8 @@ BAD_NUMBERS = (LOWEST_I32, HIGHEST_I32, LOWEST - 1, HIGHEST + 1, LOWEST, HIGHEST
 # ---- Boxes on the lines of a grid: left, bottom, width, height
 
 LONGEST_SIDE = 40
+# The four boxes about a point: whether each is left of it, and whether it is below.
+QUARTERS = ((0, 0), (1, 0), (0, 1), (1, 1))
 
 
 def crossing(chance, count, grid):
@@ -61,6 +63,18 @@ def diamond(_chance, count, _grid):
     return [(count - i, i, 2 * i + 1, 2 * (count - i) + 1) for i in range(count)]
 
 
+def pads(chance, count, _grid):
+    """Boxes about points of a coarse grid, two to four about each, which have it for a corner."""
+    found, i = [], 0
+    while len(found) < count:
+        x, y = 9 * (i % 4) + 4, 9 * (i // 4) + 4
+        for left, below in chance.sample(QUARTERS, chance.randint(2, 4)):
+            w, h = chance.randint(1, 4), chance.randint(1, 4)
+            found.append((x - left * w, y - below * h, w, h))
+        i += 1
+    return found
+
+
 SHAPES = (crossing, crossing, crossing, crossing, cells, checkerboard, comb, bars, rings, stairs, diamond)
 
 # ---- Coordinates of the lines
@@ -95,6 +109,8 @@ def anywhere(line):
 
 
 SCALES = (near_zero, low_end, whole_range, high_end)
+# Those that keep boxes of some dozen lines in range.
+IN_RANGE = (near_zero, low_end, whole_range, anywhere)
 
 # ---- Arrays
 
@@ -104,14 +120,18 @@ def placed_rects(boxes, scale):
     return [(scale(x), scale(y), scale(x + w) - scale(x), scale(y + h) - scale(y)) for x, y, w, h in boxes]
 
 
+def all_corners(boxes, scale):
+    """The corners of boxes, box after box: where boxes meet at a corner, it is listed as often as they do."""
+    return [(scale(a), scale(b)) for x, y, w, h in boxes for a, b in ((x, y), (x + w, y), (x, y + h), (x + w, y + h))]
+
+
 def odd_corners(boxes, scale):
     """The points that are a corner of an odd number of boxes, in the order in which they come."""
     found = {}
-    for x, y, w, h in boxes:
-        for point in ((x, y), (x + w, y), (x, y + h), (x + w, y + h)):
-            if found.pop(point, None) is None:
-                found[point] = True
-    return [(scale(x), scale(y)) for x, y in found]
+    for point in all_corners(boxes, scale):
+        if found.pop(point, None) is None:
+            found[point] = True
+    return list(found)
 
 
 def shuffled(chance, items):
@@ -235,7 +255,7 @@ def grid_groups():
 
 # ---- Accepted arrays, of which the edge is compared
 
-OUTLINES = 13_000
+OUTLINES = 3_000
 
 
 def outline_groups():
@@ -243,8 +263,76 @@ def outline_groups():
     chance = Random(SEED)
     for _ in range(OUTLINES):
         boxes = chance.choice(SHAPES)(chance, chance.randint(2, 12), chance.randint(3, 12))
-        points = tuple(shuffled(chance, odd_corners(boxes, chance.choice((near_zero, low_end, whole_range, anywhere)))))
+        points = tuple(shuffled(chance, odd_corners(boxes, chance.choice(IN_RANGE))))
         yield [call("forward", read(numbers_of(points)), lent(2 * len(points)), lent(4 * len(document.rectangles(points))))]
+
+
+# ---- Arrays with points that are listed more than once
+
+REPEATED_FORWARD, REPEATED_STEP = 21_500, 600
+MEETING = (*SHAPES, checkerboard, checkerboard, pads, pads, pads)
+BEYOND = (LOWEST_I32, LOWEST - 1, HIGHEST + 1, HIGHEST_I32)
+# One in so many arrays has a fault, and one in so many is also given too short a working array, and too little room.
+SELDOM = 16
+
+
+def listed_again(chance, points):
+    """A point twice or four times more, which so remains or vanishes as before, and leaves rows and columns their even counts: one of these points,
+    or one where two of their lines cross."""
+    (x, _), (_, y) = chance.choice(points), chance.choice(points)
+    return [chance.choice([(x, y), chance.choice(points)])] * chance.choice((2, 2, 4))
+
+
+def one_more(chance, points):
+    """One of the points once more, so that its row has an odd count."""
+    return [chance.choice(points)]
+
+
+def two_more(chance, points):
+    """Two points of a row once more, so that their columns have odd counts."""
+    _, row = chance.choice(points)
+    return chance.sample(sorted({(x, y) for x, y in points if y == row}), 2)
+
+
+def beyond(chance, points):
+    """A point out of range, twice, which vanishes."""
+    return [(chance.choice(BEYOND), chance.choice(points)[1])] * 2
+
+
+def repeating_points(chance):
+    """The numbers of an array in which points are listed more than once: all corners of boxes, and points that are listed again."""
+    boxes = chance.choice(MEETING)(chance, chance.randint(2, 7), chance.randint(3, 8))
+    points = all_corners(boxes, chance.choice(IN_RANGE))
+    for _ in range(chance.randint(int(len(set(points)) == len(points)), 2)):
+        points += listed_again(chance, points)
+    if chance.randrange(SELDOM) == 0:
+        points += chance.choice((one_more, two_more, beyond))(chance, points)
+    return numbers_of(shuffled(chance, points))
+
+
+def tight_group(chance, numbers):
+    """Forward on one array with just the working array and the room that it needs; and, now and then, with a number too few of either."""
+    work, room = len(numbers), 4 * len(document.rectangles(points_of(numbers)))
+    short = [(work - 1, room), (work, max(0, room - 1))] if chance.randrange(SELDOM) == 0 else []
+    return [call("forward", read(numbers), lent_any(chance, w), lent(r)) for w, r in [(work, room), *short]]
+
+
+def repeated_groups():
+    """Arrays by chance in which points are listed more than once: forward, and steps, which refuse them."""
+    chance = Random(SEED)
+    for _ in range(REPEATED_FORWARD):
+        yield tight_group(chance, repeating_points(chance))
+    for _ in range(REPEATED_STEP):
+        yield steps_of(chance, repeating_points(chance))
+
+
+def listing_groups():
+    """Every array that lists each point of a grid of 2 by 3 up to three times, in an order by chance."""
+    chance = Random(SEED)
+    grid = [(x, y) for x in range(2) for y in range(3)]
+    for times in product(range(4), repeat=len(grid)):
+        numbers = numbers_of(shuffled(chance, [point for point, count in zip(grid, times) for _ in range(count)]))
+        yield [call("forward", read(numbers), lent(len(numbers) + 1), lent(9))]
 
 
 # ---- Large arrays
@@ -263,6 +351,7 @@ LARGE_SHAPES = (
     (checkerboard, 1500, 0),
     (cells, 1025, 7),
 )
+LARGE_MEETING = ((checkerboard, 1024, 0), (pads, 1020, 0), (crossing, 1024, 12))
 MIDDLING = 50
 
 
@@ -273,6 +362,10 @@ def large_groups():
         numbers = numbers_of(shuffled(chance, odd_corners(shape(chance, count, grid), near_zero)))
         yield forward_group(chance, numbers)
         yield steps_of(chance, numbers, 2)
+    for shape, count, grid in LARGE_MEETING:
+        numbers = numbers_of(shuffled(chance, all_corners(shape(chance, count, grid), near_zero)))
+        yield tight_group(chance, numbers)
+        yield steps_of(chance, numbers, 1)
     for i in range(MIDDLING):
         boxes = SHAPES[i % len(SHAPES)](chance, chance.randint(30, 90), 40)
         yield forward_group(chance, often_damaged(chance, numbers_of(shuffled(chance, odd_corners(boxes, near_zero)))))

@@ -1,11 +1,12 @@
-"""The plates A to L of document 01, each with what the document itself states of it, and document 02 of B's edge: nothing here is computed.
+"""The plates A to L of document 01, each with what the document itself states of it, and document 02 of B's edge and of I, which gives E's
+list: nothing here is computed, but for the area and the edge of these two squares, counted by hand.
 
 What is stated of an array is how it begins afterwards. None stands for a number that the document does not give.
 """
 
 from functions import call, lent, read
 
-ROW, COLUMN, REPEATED, ROOM, RANGE = 6, 7, 5, 8, 4
+DONE, RANGE, REPEATED, ROW, COLUMN, ROOM = 0, 4, 5, 6, 7, 8
 LENT = 40
 
 A = (0, 0, 1, 0, 0, 1, 1, 1)
@@ -29,14 +30,20 @@ L = (0, 0, 1, 1, 0, 0, 1, 1)
 
 
 def forward(points, room, result, rects=()):
-    """A plate forward."""
-    return call("forward", read(points), lent(LENT), lent(room), stated={"result": result, "rects": rects})
+    """A plate forward. With a list, and where there is no room for it, the working array begins with two zeros per point given."""
+    work = (0,) * len(points) if result[0] in (DONE, ROOM) else ()
+    return call("forward", read(points), lent(LENT), lent(room), stated={"result": result, "rects": rects, "work": work})
 
 
 def one_step(points, rect, work):
     """One step of a plate."""
     stated = {"result": (0, 0), "rect": rect, "work": work}
     return call("step", lent(len(points), points), len(points) // 2, stated=stated)
+
+
+def refused_step(points, result):
+    """A step that is refused for a plate's points."""
+    return call("step", lent(len(points), points), len(points) // 2, stated={"result": result, "work": points})
 
 
 def backward(rects, result, points):
@@ -53,12 +60,15 @@ def plate_groups():
         forward(C, LENT, (0, 0, 4, 20), C_LIST),
         forward(D, LENT, (0, 0, 4, 12), D_LIST),
         forward(D, 3 * 4, (ROOM, 4, 0, 0, 0)),
-        forward(E, LENT, (0, 0, 2), E_LIST),
+        forward(E, len(E_LIST), (0, 0, 2, 2, 8), E_LIST),
+        forward(E, len(E_LIST) - 1, (ROOM, 2, 0, 0, 0)),
         one_step(E, (0, 0, 1, 1), (2, 2, 1, 2, 2, 1, 1, 1, 0, 0, 0, 0)),
         forward((), LENT, (0, 0, 0)),
         forward(G, LENT, (ROW, 2, 0, 0, 0)),
         forward(H, LENT, (COLUMN, 1, 0, 0, 0)),
-        forward(I, LENT, (REPEATED, 4, 0, 0, 0)),
+        forward(I, len(E_LIST), (0, 0, 2, 2, 8), E_LIST),
+        forward(I, len(E_LIST) - 1, (ROOM, 2, 0, 0, 0)),
+        refused_step(I, (REPEATED, 4)),
         forward(J, LENT, (0, 0, 1, J_AREA), J_LIST),
         forward(J_FURTHER, LENT, (RANGE, 1, 0, 0, 0)),
         backward(B_LIST, (0, 0, 10), K_POINTS),

@@ -20,9 +20,9 @@ HERE = Path(__file__).resolve().parent
 sys.path.insert(0, str(HERE.parent))
 
 from c_face import archived, built
-from document import DONE, NAMES
-from edges import length_groups, pair_groups, range_groups, room_groups, step_groups, stop_groups
-from families import grid_groups, large_groups, outline_groups, small_groups
+from document import DONE, NAMES, points_of
+from edges import length_groups, pair_groups, range_groups, room_groups, step_groups, stop_groups, vanishing_groups
+from families import grid_groups, large_groups, listing_groups, outline_groups, repeated_groups, small_groups
 from functions import FUNCTIONS, NUMBER, READ
 from machine import ARCHIVE, ROOT, emulator
 from plates import plate_groups
@@ -30,6 +30,7 @@ from plates import plate_groups
 GENERATORS = (
     plate_groups,
     pair_groups,
+    vanishing_groups,
     range_groups,
     length_groups,
     room_groups,
@@ -39,11 +40,15 @@ GENERATORS = (
     large_groups,
     small_groups,
     outline_groups,
+    listing_groups,
+    repeated_groups,
 )
 # How many groups of calls, each with an array of its own, there must be at least.
-FEWEST_GROUPS = {"forward": 27_420, "step": 2_875, "backward": 5_765}
+FEWEST_GROUPS = {"forward": 43_000, "step": 3_475, "backward": 5_765}
 # On how many different arrays the edge must be compared at least: that is a field of the result of forward on answer 0.
 FEWEST_EDGES = 20_000
+# And on how many of these a point must be listed more than once.
+FEWEST_REPEATED = 20_000
 # The driver is started anew after arrays with so many numbers.
 BATCH = 1_000_000
 MOST_PRINTED = 5
@@ -147,7 +152,8 @@ class Tally:
     """What was compared: of each function the groups, the calls and the answers; and what differs."""
 
     def __init__(self):
-        self.groups, self.calls, self.answers, self.faults, self.edges = Counter(), Counter(), Counter(), [], set()
+        self.groups, self.calls, self.answers, self.faults = Counter(), Counter(), Counter(), []
+        self.edges, self.repeated = set(), set()
 
     def add(self, call, line):
         """Compares a call and counts it."""
@@ -158,14 +164,21 @@ class Tally:
         answer = line.partition(";")[0]
         self.answers[call.name, answer] += 1
         if call.name == "forward" and answer == str(DONE):
-            self.edges.add(hash(call.arguments[0].numbers))
+            self.add_accepted(call.arguments[0].numbers)
+
+    def add_accepted(self, numbers):
+        """Counts an array that forward accepts."""
+        points = points_of(numbers)
+        self.edges.add(hash(numbers))
+        if len(set(points)) < len(points):
+            self.repeated.add(hash(numbers))
 
     def counts(self):
         """What was compared, in words."""
         for name, function in FUNCTIONS.items():
             answers = ", ".join(f"{NAMES[number]} {self.answers[name, str(number)]}" for number in function.answers)
             yield f"{name}: {self.groups[name]} arrays, {self.calls[name]} calls; {answers}"
-        yield f"edge: {len(self.edges)} different arrays"
+        yield f"edge: {len(self.edges)} different arrays, {len(self.repeated)} of them with a point listed more than once"
 
     def gaps(self):
         """What was to be compared and was not."""
@@ -177,6 +190,8 @@ class Tally:
                 yield f"{name}: no call is answered with {', '.join(missing)}"
         if len(self.edges) < FEWEST_EDGES:
             yield f"edge: there are {len(self.edges)} arrays, and at least {FEWEST_EDGES} are wanted"
+        if len(self.repeated) < FEWEST_REPEATED:
+            yield f"repeated: there are {len(self.repeated)} arrays, and at least {FEWEST_REPEATED} are wanted"
 
 
 def printed(command, calls):

@@ -1,5 +1,5 @@
 """Tests the comparison with the second implementation: that it notices what differs, that the table is the header's, that two refusals hold
-where they should, and that document.py keeps what document 01 says follows from its rules.
+where they should, that points vanish where they should, and that document.py keeps what documents 01 and 02 say follows from their rules.
 
 The last line is 'N passed, M failed', and the exit status is 0 exactly when M is 0.
 """
@@ -8,8 +8,9 @@ import re
 import sys
 import unittest
 from collections import Counter
-from itertools import product
+from itertools import islice, product
 from pathlib import Path
+from random import Random
 
 HERE = Path(__file__).resolve().parent
 sys.path.insert(0, str(HERE.parent))
@@ -17,10 +18,10 @@ sys.path.insert(0, str(HERE.parent))
 import document
 import run
 from counting import run_tests
-from edges import pairs
-from families import grid_groups
+from edges import pairs, vanishing
+from families import SEED, grid_groups, repeated_groups, repeating_points
 from functions import FIXED, FUNCTIONS, call, lent, read
-from plates import A, E, E_LIST, forward
+from plates import A, E, E_LIST, I, forward
 
 HEADER = HERE.parent.parent / "include" / "panbuckle.h"
 DECLARED = re.compile(r"\bpanbuckle_(\w+)\(([^)]*\bresult\[[^)]*)\)")
@@ -83,11 +84,13 @@ class Comparison(unittest.TestCase):
         tally = run.Tally()
         tally.groups["forward"] = run.FEWEST_GROUPS["forward"]
         tally.add(SQUARE, RIGHT)
+        tally.add_accepted(I)
         gaps = list(tally.gaps())
-        self.assertIn("forward: no call is answered with LENGTH, MANY, WORK, RANGE, REPEATED, ROW, COLUMN, ROOM", gaps)
+        self.assertIn("forward: no call is answered with LENGTH, MANY, WORK, RANGE, ROW, COLUMN, ROOM", gaps)
         self.assertIn(f"step: there are 0 arrays, and at least {run.FEWEST_GROUPS['step']} are wanted", gaps)
-        self.assertIn(f"edge: there are 1 arrays, and at least {run.FEWEST_EDGES} are wanted", gaps)
-        self.assertEqual((len(gaps), tally.faults), (6, []))
+        self.assertIn(f"edge: there are 2 arrays, and at least {run.FEWEST_EDGES} are wanted", gaps)
+        self.assertIn(f"repeated: there are 1 arrays, and at least {run.FEWEST_REPEATED} are wanted", gaps)
+        self.assertEqual((len(gaps), tally.faults), (7, []))
 
 
 class Table(unittest.TestCase):
@@ -115,7 +118,102 @@ class Pairs(unittest.TestCase):
 
     def test_every_pair_but_those_with_drained(self):
         counts = Counter(one.name for _, one in pairs())
-        self.assertEqual(counts, {"forward": 8 * 7 // 2, "backward": 5 * 4 // 2, "step": 6 * 5 // 2})
+        self.assertEqual(counts, {"forward": 7 * 6 // 2, "backward": 5 * 4 // 2, "step": 6 * 5 // 2})
+
+
+def stepped(points, length):
+    """The steps on points, in a working array of so many numbers, until one is refused: its answer, their list, and the array after them."""
+    work, count, made = [*document.numbers_of(points), *[0] * (length - 2 * len(points))], len(points), []
+    while (answer := document.step(work, count))[0] == document.DONE:
+        _, _, count, rect = answer
+        made.append(rect)
+    return answer[0], made, work
+
+
+class Vanishing(unittest.TestCase):
+    """The points that remain, by document 02's request 2."""
+
+    def check(self, given, left):
+        """Of these points, a letter for each, those remain."""
+        self.assertEqual("".join(document.remaining(given)), left)
+
+    def test_which_points_remain(self):
+        self.check("", "")
+        self.check("dcba", "dcba")
+        self.check("aa", "")
+        self.check("abca", "bc")
+        self.check("baaba", "a")
+        self.check("abbcaa", "ac")
+        self.check("cbabacbbb", "b")
+        self.check("bacabca", "a")
+
+    def test_a_triple_stands_once_where_it_is_first_listed(self):
+        self.check("abcbdb", "abcd")
+        self.check("bbabcd", "bacd")
+
+    def test_the_edges(self):
+        for wanted, one in vanishing():
+            returned, arrays = run.outcome_of(one)
+            self.assertEqual((returned, tuple(arrays[-1][1][:3])), (wanted[0], wanted))
+
+    def test_all_numbers_of_the_points_given_are_zeroed(self):
+        for one in [one for (answer, *_), one in vanishing() if one.name == "forward" and answer == document.DONE]:
+            _, (_, (_, work), *_) = run.outcome_of(one)
+            self.assertEqual(work, [0] * one.arguments[0].length)
+
+    def test_refusals_at_a_point_that_vanishes(self):
+        found = Counter()
+        for one in [group[0] for group in islice(repeated_groups(), 2000)]:
+            answer, (_, _, _, (_, (_, place, *_))) = run.outcome_of(one)
+            points = document.points_of(one.arguments[0].numbers)
+            found[answer] += answer != document.DONE and points[place] not in document.remaining(points)
+        for answer in (document.RANGE, document.ROW, document.COLUMN):
+            self.assertGreater(found[answer], 5)
+
+
+class Repeated(unittest.TestCase):
+    """What document 02's request 2 says follows, of some hundred accepted arrays in which points are listed more than once."""
+
+    @classmethod
+    def setUpClass(cls):
+        chance = Random(SEED)
+        given = [document.points_of(repeating_points(chance)) for _ in range(400)]
+        cls.accepted = [points for points in given if next(document.refusals_of_points(points), None) is None]
+
+    def test_there_are_enough(self):
+        self.assertGreater(len(self.accepted), 300)
+        self.assertTrue(all(len(set(points)) < len(points) for points in self.accepted))
+
+    def test_forward_is_the_points_that_remain_stepped(self):
+        for points in self.accepted:
+            left, length = document.remaining(points), 2 * len(points)
+            work, rects = [7] * length, [0] * 4 * len(document.rectangles(points))
+            document.forward(document.numbers_of(points), work, rects)
+            self.assertEqual((document.DRAINED, list(document.rects_of(rects)), work), stepped(left, length))
+
+    def test_it_answers_as_of_the_points_that_remain(self):
+        for points in self.accepted:
+            given, left = (document.numbers_of(some) for some in (points, document.remaining(points)))
+            of_given, of_left = [0] * 400, [0] * 400
+            self.assertEqual(document.forward(given, [7] * len(given), of_given), document.forward(left, [7] * len(left), of_left))
+            self.assertEqual(of_given, of_left)
+
+    def test_the_edge_of_the_points_given_is_that_of_those_that_remain(self):
+        for points in self.accepted:
+            self.assertEqual(document.outline_length(points), document.outline_length(document.remaining(points)))
+
+    def test_each_cell_that_the_points_given_mark_is_in_one_rectangle(self):
+        for points in self.accepted[::8]:
+            columns, rows = sorted({x for x, _ in points}), sorted({y for _, y in points})
+            for a, b in product(columns, rows):
+                marked = document.odd(sum(x <= a and y <= b for x, y in points))
+                holding = sum(x <= a < x + w and y <= b < y + h for x, y, w, h in document.rectangles(points))
+                self.assertEqual(holding, int(marked))
+
+    def test_there_and_back_gives_the_points_that_remain(self):
+        for points in self.accepted:
+            back = document.corners(tuple(document.rectangles(points)))
+            self.assertEqual(back, sorted(document.remaining(points), key=lambda point: point[::-1]))
 
 
 class Definition(unittest.TestCase):
@@ -131,11 +229,8 @@ class Definition(unittest.TestCase):
 
     def test_forward_is_stepped(self):
         for numbers in self.accepted:
-            work, count, made = list(numbers), len(numbers) // 2, []
-            while count > 0:
-                _, _, count, rect = document.step(work, count)
-                made.append(rect)
-            self.assertEqual((made, work), (document.rectangles(document.points_of(numbers)), [0] * len(numbers)))
+            points = document.points_of(numbers)
+            self.assertEqual(stepped(points, len(numbers)), (document.DRAINED, document.rectangles(points), [0] * len(numbers)))
 
     def test_each_marked_cell_is_in_one_rectangle(self):
         for numbers in self.accepted:

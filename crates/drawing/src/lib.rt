@@ -14,9 +14,7 @@ ghost use Rattle.text.specs.Sentences.{sentence};
 ghost use Rattle.drawing.specs.Plan.{extent, about, widened, frameOf, spanOf, scaled, viewOf, across, down, freeBeside, boxOf, numberSize, dotRadius};
 ghost use Rattle.drawing.specs.Picture.{blank, filled, headOf, blockOf, blocks, dotOf, dots, markOf, listSays, refusedSays, refusalSays, listPart, pointPart, markPart, svgOf, Drawn, listShown, sumsShown, sayPart};
 ghost use Rattle.drawing.specs.Inner.{piece, IsRaised, ShowsAll, IsSmall};
-use entry::COLUMN;
 use entry::DONE;
-use entry::RANGE;
 use numerals::put_bytes;
 use numerals::put_number;
 use panbuckle::ForwardAnswer;
@@ -26,6 +24,7 @@ use panbuckle::forward;
 use plane::point_at;
 use plane::raise;
 use plane::rect_at;
+use plane::same_point;
 use reading::read_points;
 use text::MOST_LIST;
 use text::MOST_SAID;
@@ -33,6 +32,7 @@ use text::MOST_WORK;
 use text::Report;
 use text::answer;
 use text::complaint;
+use text::names_one;
 
 // The most bytes of a picture: its head and what it says, 3,200 rectangles and 4,096 points.
 pub const MOST_DRAWN: usize = 800000;
@@ -358,12 +358,6 @@ fn line_of(v: View, p: Point) -> u64
     line(v, raise(p.y))
 }
 
-fn same_point(p: Point, q: Point) -> bool
-    ensures { λ r. ⌜ r ≡ same p q ⌝ }
-{
-    (p.x == q.x) & (p.y == q.y)
-}
-
 // Whether p is listed an odd number of times.
 fn stands(points: &[i32], p: Point) -> bool
     ensures { λ r. ⌜ r ≡ odd (same p) (pointsOf (now (points .entry))) ⌝ }
@@ -494,7 +488,7 @@ fn put_offender(out: &mut [u8], at: usize, v: View, points: &[i32], r: Report) -
     requires { ⌜ ShowsAll v × (at + 200 ≤ length (now out)) ⌝ }
     ensures { λ n. ⌜ Wrote (now (out .entry)) at (markPart v (pointsOf (now (points .entry))) r) n (now (out .exit)) ⌝ }
 {
-    if (RANGE <= r.answer) & (r.answer <= COLUMN) {
+    if names_one(r.answer) {
         return put_mark(out, at, v, radius_for(points.len() / 2), r.point);
     }
     at

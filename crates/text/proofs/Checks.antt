@@ -10,7 +10,7 @@ use Rattle.plane.proofs.Bools.{cond-false}
 use Rattle.entry.specs.Checks.{accepted, refused, verdict}
 use Rattle.entry.proofs.Verdicts.{accepted-clear, clear-append, verdict-append, refused-number}
 use Rattle.entry.proofs.Entry.{Numbered}
-use Rattle.rule.specs.Rows.{pointChecks}
+use Rattle.rule.specs.Rows.{balanceChecks}
 use Rattle.rule.specs.ForwardCall.{forwardChecks, ForwardAccepted, inputChecks}
 use Rattle.rule.proofs.ForwardCall.{forward-accepted}
 use Rattle.reading.specs.Reading.{pointsRead, textChecks}
@@ -26,12 +26,12 @@ program-accepts t e =
     forward-accepted a mostWork mostList .0 (accepted-clear (forwardChecks a mostWork mostList) .1 (h .1))
 
 pub program-numbered : (t : List ℕ) → Numbered (programChecks t)
-unfolding programChecks textChecks forwardChecks inputChecks pointChecks
+unfolding programChecks textChecks forwardChecks inputChecks balanceChecks
 program-numbered t = omega arith
 
 -- 11 is the greatest number
 pub program-number : (t : List ℕ) {k p : ℕ} → verdict (programChecks t) ≡ refused k p → k ≤ 11
-unfolding programChecks textChecks forwardChecks inputChecks pointChecks
+unfolding programChecks textChecks forwardChecks inputChecks balanceChecks
 program-number t e = refused-number (programChecks t) (λ k. k ≤ 11) (omega arith) e
 
 -- where the text is accepted, the program says what forward says of its points

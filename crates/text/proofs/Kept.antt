@@ -2,17 +2,20 @@
 use Prim.Native.Nat.{ℕ, suc, _≤_}
 use native.Mathlib.Omega.{arith}
 use mathlib.Core.Path.{_≡_, ap, _∙_, sym}
+use mathlib.Core.Logic.{_≢_}
 use mathlib.Core.List.{List}
 use lib.ListN.{length, take}
+use Rattle.plane.specs.Remaining.{Balanced}
 use Rattle.plane.proofs.Outcomes.{one-outcome}
 use Rattle.plane.proofs.Arrays.{points-flat}
-use Rattle.entry.specs.Entry.{Answers}
+use Rattle.entry.specs.Checks.{verdict}
+use Rattle.entry.specs.Entry.{numberIn, Answers}
 use Rattle.entry.proofs.Entry.{answers, accepts}
-use Rattle.entry.proofs.Verdicts.{refused-exactly}
-use Rattle.rule.specs.Rows.{Accepted}
-use Rattle.rule.specs.ForwardCall.{forwardSums, forwardList}
+use Rattle.entry.proofs.Verdicts.{verdict-case, refused-exactly, refused-number}
+use Rattle.rule.specs.Rows.{balanceChecks}
+use Rattle.rule.specs.ForwardCall.{inputChecks, forwardChecks, forwardSums, forwardList}
 use Rattle.numerals.proofs.Putting.{put-made, pasted-length, pasted-front}
-use Rattle.reading.specs.Reading.{pointsRead}
+use Rattle.reading.specs.Reading.{pointsRead, textChecks}
 use Rattle.text.specs.declared.Report.{Report}
 use Rattle.text.specs.Program.{programChecks, listLines, refusalLine, programPrints, programReport, ProgramDone, numbersRead}
 use Rattle.text.proofs.Checks.{program-accepts, program-numbered}
@@ -40,8 +43,13 @@ module _ {t out : List ℕ} {r : Report} {after : List ℕ} (d : ProgramDone t o
   unfolding programPrints
   refused-prints k p e f = rw (refused-exactly (programChecks t) (suc k) p .1 (program-answers .refused-exactly-when k p .0 (e, f)))
 
-  -- and otherwise, where forward accepts the points read, the rule's list of them
-  pub done-prints : r .answer ≡ 0 → (programPrints t ≡ listLines (forwardSums (numbersRead t)) (forwardList (numbersRead t))) × Accepted (pointsRead t)
+  -- which is never REPEATED
+  pub program-never-repeated : r .answer ≢ 5
+  unfolding programReport programChecks textChecks forwardChecks inputChecks balanceChecks
+  program-never-repeated = rw (d .report) (verdict-case (λ v. numberIn v ≢ 5) (verdict (programChecks t)) (λ e. omega arith) (λ k p e. refused-number (programChecks t) (λ n. n ≢ 5) (omega arith) e))
+
+  -- and otherwise, where forward accepts the points read, the rule's list of those that remain
+  pub done-prints : r .answer ≡ 0 → (programPrints t ≡ listLines (forwardSums (numbersRead t)) (forwardList (numbersRead t))) × Balanced (pointsRead t)
   unfolding programPrints programReport
   done-prints e =
       let v = accepts (programChecks t) (program-numbered t) .0 (rw (d .report) at e) in

@@ -25,7 +25,7 @@ fault-length : (k : ℕ) → length (pointFault k) ≤ 56
 unfolding pointFault
 fault-length k =
     let P : List ℕ → Type 0 = λ l. length l ≤ 56 in
-    cond-case P (eqb k 4) (λ _. omega arith) (λ _. cond-case P (eqb k 5) (λ _. omega arith) (λ _. cond-case P (eqb k 6) (λ _. omega arith) (λ _. omega arith)))
+    cond-case P (eqb k 4) (λ _. omega arith) (λ _. cond-case P (eqb k 6) (λ _. omega arith) (λ _. omega arith))
 
 -- a point and its fault together
 pub point-length : (place : ℕ) (p : Point) (k : ℕ) → place < 2 ^ 64 → mag (p .x) < 2 ^ 31 → mag (p .y) < 2 ^ 31 → length (namesPoint place p ++ pointFault k) ≤ 200
@@ -54,7 +54,7 @@ pub sentence-length : (r : Report) → ReportFits r → length (sentence r) ≤ 
 unfolding sentence
 sentence-length r f =
     let P : List ℕ → Type 0 = λ l. length l ≤ 200 in
-    cond-case P (eqb (r .answer) 2) (λ _. many-length (r .read)) λ _.
     cond-case P (namesOne (r .answer)) (λ _. point-length (r .place) (r .point) (r .answer) (f .place) (f .x-small) (f .y-small)) λ _.
+    cond-case P (eqb (r .answer) 2) (λ _. many-length (r .read)) λ _.
     cond-case P (eqb (r .answer) 8) (λ _. room-length (r .place) (f .place)) λ _.
     cond-case P (eqb (r .answer) 11) (λ _. text-length (r .place) (f .place)) (λ _. omega arith)

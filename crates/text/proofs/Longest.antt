@@ -14,17 +14,20 @@ use lib.Dec.{eqb}
 use Rattle.plane.specs.declared.Point.{Point}
 use Rattle.plane.specs.declared.Rect.{Rect}
 use Rattle.plane.specs.Words.{inRange, right, top, rectInRange, pointsOf}
+use Rattle.plane.specs.Remaining.{remaining}
 use Rattle.plane.proofs.Bools.{and-four}
 use Rattle.plane.proofs.Order.{add-up, mag-most, range-up, range-most}
 use Rattle.plane.proofs.Arrays.{length-points, points-flat}
 use Rattle.entry.specs.Checks.{by-whole, FirstGiven, this, later, Verdict, accepted, refused, verdict}
 use Rattle.entry.proofs.Verdicts.{PlacesWithin, place-within, clear-exactly, refused-exactly}
+use Rattle.plane.proofs.Remaining.{remaining-few}
 use Rattle.rule.specs.Rule.{ruleList}
-use Rattle.rule.specs.Rows.{MANY, pointChecks}
-use Rattle.rule.specs.ForwardCall.{forwardChecks, ForwardAccepted, forwardList, Sums, forwardSums, inputChecks}
+use Rattle.rule.specs.Rows.{MANY, balanceChecks}
+use Rattle.rule.specs.ForwardCall.{forwardChecks, ForwardAccepted, pointsRemaining, forwardList, Sums, forwardSums, inputChecks}
 use Rattle.rule.proofs.Rows.{many-clear}
 use Rattle.rule.proofs.Bound.{rule-most}
 use Rattle.rule.proofs.Rising.{rule-rects}
+use Rattle.rule.proofs.Remaining.{remaining-accepted}
 use Rattle.rule.proofs.Area.{rule-area-most, rule-edge-most}
 use Rattle.numerals.proofs.Printing.{decimal-length, signed-length}
 use Rattle.reading.specs.Lines.{Line, onto, linesOf, linePoint, withPoint, pointsIn}
@@ -67,8 +70,10 @@ pub list-fits : (a : List ℤ) (work : ℕ) → ForwardAccepted a work mostList 
 unfolding listLines
 list-fits a work c =
     let few : forwardSums a .count ≤ mostListed = c .room in
-    let sums = sums-length (forwardSums a) (omega arith) (omega (arith, rule-area-most (pointsOf a) (c .points))) (omega (arith, rule-edge-most (pointsOf a) (c .points), length-points a, c .few)) in
-    let lines = rects-length (forwardList a) (rule-rects (pointsOf a) (c .points) .range) in
+    let ps = pointsRemaining a in
+    let acc = remaining-accepted (pointsOf a) (c .points) in
+    let sums = sums-length (forwardSums a) (omega arith) (omega (arith, rule-area-most ps acc)) (omega (arith, rule-edge-most ps acc, remaining-few (pointsOf a), length-points a, c .few)) in
+    let lines = rects-length (forwardList a) (rule-rects ps acc .range) in
     simp length-append (omega arith)
 
 -- ---- A refusal's place
@@ -98,12 +103,13 @@ points-length (l ∷ ls) = go (linePoint l) (points-length ls)
 
 -- the program's places are those of lines and points, of which there are at most 65,536, or the length of a list
 program-within : (t : List ℕ) → length t ≤ 65_536 → PlacesWithin (2 ^ 32) (programChecks t)
-unfolding programChecks textChecks forwardChecks inputChecks pointChecks
+unfolding programChecks textChecks forwardChecks inputChecks balanceChecks
 program-within t h =
     let ps = pointsRead t in
+    let left = remaining ps in
     let lines = lines-length t in
     let points = points-length (linesOf t) in
-    let list : length (ruleList ps) ≤ 2 ^ 32 = omega (arith, rule-most ps, square-most (length ps) (omega arith)) in
+    let list : length (ruleList left) ≤ 2 ^ 32 = omega (arith, rule-most left, square-most (length left) (omega (arith, remaining-few ps))) in
     rw (points-flat ps) (omega arith)
   where
     square-most : (n : ℕ) → n ≤ 65_536 → n * n ≤ 2 ^ 32

@@ -1,11 +1,11 @@
 -- What the program refuses, prints and reports, of the bytes that it reads.
 use Prim.Native.Nat.{ℕ, _*_}
 use mathlib.Core.Path.{_≡_}
-use mathlib.Core.Bool.{Bool, cond, _&&_}
+use mathlib.Core.Bool.{Bool, cond, _||_}
 use mathlib.Core.List.{List, [], _∷_, _++_}
 use lib.ListN.{length}
 use lib.IntN.{ℤ}
-use lib.Dec.{leb}
+use lib.Dec.{eqb}
 use Rattle.plane.specs.declared.Point.{Point}
 use Rattle.plane.specs.declared.Rect.{Rect}
 use Rattle.plane.specs.Words.{origin, flatPoints, pointAt, rectSize, mostPoints}
@@ -73,9 +73,9 @@ programPrints t = printed (verdict (programChecks t)) (forwardSums (numbersRead 
 
 -- ---- What is reported
 
--- a refusal names a point: RANGE, REPEATED, ROW and COLUMN do
+-- a refusal of the program names a point: RANGE, ROW and COLUMN do
 unfoldable pub namesOne : (number : ℕ) → Bool
-namesOne k = leb 4 k && leb k 7
+namesOne k = eqb k 4 || (eqb k 6 || eqb k 7)
 
 -- the point that a refusal names; (0, 0), if it names none
 unfoldable pub offender : (number place : ℕ) → List Point → Point

@@ -21,7 +21,7 @@ namesPoint place p =
 -- what is wrong with a point, by the refusal's number
 unfoldable pub pointFault : (number : ℕ) → List ℕ
 pointFault k =
-    cond (eqb k 4) (ascii "has a coordinate below -1000000000 or above 1000000000.\n") (cond (eqb k 5) (ascii "repeats an earlier point.\n") (cond (eqb k 6) (ascii "is on a row with an odd number of points.\n") (ascii "is in a column with an odd number of points.\n")))
+    cond (eqb k 4) (ascii "has a coordinate below -1000000000 or above 1000000000.\n") (cond (eqb k 6) (ascii "is on a row with an odd number of points.\n") (ascii "is in a column with an odd number of points.\n"))
 
 -- ROOM: how many rectangles the list has
 unfoldable pub roomSays : (place : ℕ) → List ℕ
@@ -34,4 +34,5 @@ textSays place = ascii "Line " ++ (decimal place ++ ascii " (counted from 0) is 
 -- the sentence of a report; none if nothing is refused
 unfoldable pub sentence : Report → List ℕ
 sentence r =
-    cond (eqb (r .answer) 2) (manySays (r .read)) (cond (namesOne (r .answer)) (namesPoint (r .place) (r .point) ++ pointFault (r .answer)) (cond (eqb (r .answer) 8) (roomSays (r .place)) (cond (eqb (r .answer) 11) (textSays (r .place)) [])))
+    cond (namesOne (r .answer)) (namesPoint (r .place) (r .point) ++ pointFault (r .answer))
+    (cond (eqb (r .answer) 2) (manySays (r .read)) (cond (eqb (r .answer) 8) (roomSays (r .place)) (cond (eqb (r .answer) 11) (textSays (r .place)) [])))

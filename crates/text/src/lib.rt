@@ -13,7 +13,6 @@ use entry::COLUMN;
 use entry::DONE;
 use entry::MANY;
 use entry::RANGE;
-use entry::REPEATED;
 use entry::ROOM;
 use entry::ROW;
 use entry::TEXT;
@@ -124,10 +123,11 @@ fn put_rects(out: &mut [u8], at: usize, rects: &[i32], n: usize) -> usize
 
 // ---- The program
 
-fn names_one(number: u32) -> bool
+// Whether a refusal of the program names a point.
+pub fn names_one(number: u32) -> bool
     ensures { λ r. ⌜ r ≡ namesOne number ⌝ }
 {
-    (RANGE <= number) & (number <= COLUMN)
+    (number == RANGE) | ((number == ROW) | (number == COLUMN))
 }
 
 // The point that a refusal names.
@@ -254,7 +254,6 @@ fn say_fault(out: &mut [u8], at: usize, number: u32) -> usize
             at,
             b"has a coordinate below -1000000000 or above 1000000000.\n",
         ),
-        REPEATED => put_bytes(out, at, b"repeats an earlier point.\n"),
         ROW => put_bytes(out, at, b"is on a row with an odd number of points.\n"),
         _ => put_bytes(out, at, b"is in a column with an odd number of points.\n"),
     }
@@ -286,12 +285,12 @@ fn say(out: &mut [u8], r: Report) -> usize
     ensures { λ n. ⌜ Wrote (now (out .entry)) 0 (sentence r) n (now (out .exit)) ⌝ }
 {
     let number = r.answer;
+    if names_one(number) {
+        let at = say_point(out, r.place, r.point);
+        return say_fault(out, at, number);
+    }
     match number {
         MANY => say_many(out, r.read),
-        RANGE..=COLUMN => {
-            let at = say_point(out, r.place, r.point);
-            say_fault(out, at, number)
-        }
         ROOM => say_room(out, r.place),
         TEXT => say_line(out, r.place),
         _ => 0,

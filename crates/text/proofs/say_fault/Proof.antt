@@ -27,25 +27,15 @@ unfolding pointFault
 returns-3 c =
     let t = c .before .before in
     let m = t .before .before .before in
-    let e = m .match .keys3 in
-    rw e (wrote (t .put-bytes3 .ensures) (rw e at (m .before .before .pre)))
-
-returns-4 : tie.Need-returns-4
-unfolding pointFault
-returns-4 c =
-    let t = c .before .before in
-    let m = t .before .before .before in
     let k = m .before .before .args .number in
     let n = m .match .rest in
-    let four = ne-eqb k 4 (n .0 .0 .1) in
-    let five = ne-eqb k 5 (n .0 .1) in
+    let four = ne-eqb k 4 (n .0 .1) in
     let six = ne-eqb k 6 (n .1) in
-    rw (four, five, six) (wrote (t .put-bytes4 .ensures) (rw (four, five, six) at (m .before .before .pre)))
+    rw (four, six) (wrote (t .put-bytes3 .ensures) (rw (four, six) at (m .before .before .pre)))
 
 pub say-fault-spec : {M : Type 1} → statement M
 say-fault-spec =
     tie.close
     (tie.spec
     (λ c. search needs) (λ c κs. search needs) (λ c. search needs) (λ c κs. search needs) (λ c. search needs) (λ c κs. search needs)
-    (λ c. search needs) (λ c κs. search needs) (λ c. search needs) returns (λ c. search needs) returns-2 (λ c. search needs) returns-3
-    (λ c. search needs) returns-4)
+    (λ c. search needs) returns (λ c. search needs) returns-2 (λ c. search needs) returns-3)

@@ -1,4 +1,4 @@
--- Laws of numbers in strictly rising order: one is put at the end, a list is cut, and a list is determined by its numbers.
+-- Laws of numbers in strictly rising order: one is put first, equal ones are dropped two by two, a list is cut, and a list is determined by its numbers.
 use Prim.Native.Nat.{ℕ, zero, suc, _-_, _<_, _≤_}
 use native.Mathlib.Omega.{arith}
 use mathlib.Core.Path.{_≡_, refl, sym, ap₂, _∙_}
@@ -8,10 +8,13 @@ use lib.ListN.{length, getD, take}
 use lib.Dec.{eqb, ltb}
 use borrow.Author.Tests.{ltb-true, lt-ltb, le-ltb, eqb-true, eqb-false, eq-eqb, ne-eqb}
 use Rattle.plane.specs.Lists.{odd}
+use Rattle.plane.specs.Sorted.{sorted, offPairs}
 use Rattle.plane.proofs.Bools.{clash, and-parts, and-make, xor-false, false-xor}
 use Rattle.plane.proofs.Parity.{odd-none-of, odd-cons, odd-rest, odd-none, odd-find}
-use Rattle.plane.proofs.Places.{in-at, take-last}
-use Rattle.outline.specs.Inner.{endsWith, climbs, climbsAfter}
+use Rattle.plane.proofs.Places.{in-at}
+use Rattle.plane.proofs.Sorted.{least-first, sorted-parity, sorted-twice}
+use Rattle.plane.proofs.Pairs.{off-odd, off-ascends}
+use Rattle.outline.specs.Inner.{climbs, climbsAfter, OddOnes}
 
 -- ---- The first number
 
@@ -39,38 +42,21 @@ unfolding climbs
 climbs-odd {j} {ks = k ∷ ks} e (head d) = odd-cons (eqb j) k ks ∙ rw (eq-eqb j k d, odd-none (eqb j) ks (λ i m. ne-eqb j i (λ g. omega (arith, climbs-above k e m))), xor-false)
 climbs-odd {j} {ks = k ∷ ks} e (tail m) = odd-cons (eqb j) k ks ∙ rw (ne-eqb j k (λ g. omega (arith, climbs-above k e m)), climbs-odd (climbs-rest k ks e) m, false-xor)
 
--- ---- A number put at the end
+-- ---- A number put first
 
--- a list ends with the number put at its end
-ends-with-end : (l : List ℕ) (j k : ℕ) → endsWith (l ++ (j ∷ [])) k ≡ eqb j k
-unfolding endsWith
-ends-with-end [] j k = refl
-ends-with-end (i ∷ []) j k = refl
-ends-with-end (i ∷ h ∷ l) j k = ends-with-end (h ∷ l) j k
-
--- the first n numbers end with the last of them
-pub ends-with-last : (l : List ℕ) (n k : ℕ) → 0 < n → n ≤ length l → endsWith (take n l) k ≡ eqb (getD l (n - 1) 0) k
-ends-with-last l n k h m = rw (take-last l n 0 h m) (ends-with-end (take (n - 1) l) (getD l (n - 1) 0) k)
-
--- where they end with k, n is not 0
-pub ends-with-some : (l : List ℕ) (n k : ℕ) → endsWith (take n l) k ≡ true → 0 < n
-unfolding endsWith
-ends-with-some l zero k e = clash e refl
-ends-with-some l (suc n) k e = omega arith
-
--- a list that climbs does so up to any place
-pub climbs-start : (l m : List ℕ) → climbs (l ++ m) ≡ true → climbs l ≡ true
+-- numbers that climb do so after one below all of them
+climbs-front : (k : ℕ) (ks : List ℕ) → climbs ks ≡ true → ((j : ℕ) → In j ks → ltb k j ≡ true) → climbs (k ∷ ks) ≡ true
 unfolding climbs climbsAfter
-climbs-start [] m e = refl
-climbs-start (j ∷ []) m e = refl
-climbs-start (j ∷ i ∷ l) m e = let h = and-parts (ltb j i) (climbsAfter i (l ++ m)) e in and-make (ltb j i) (climbsAfter i l) (h .0) (climbs-start (i ∷ l) m (h .1))
+climbs-front k [] e low = refl
+climbs-front k (j ∷ ks) e low = and-make (ltb k j) (climbsAfter j ks) (low j (head refl)) e
 
--- and with k put at its end, if none is above k and k does not end it
-pub climbs-end : (l : List ℕ) (k : ℕ) → climbs l ≡ true → ((m : ℕ) → In m l → m ≤ k) → endsWith l k ≡ false → climbs (l ++ (k ∷ [])) ≡ true
-unfolding climbs climbsAfter endsWith
-climbs-end [] k e most d = refl
-climbs-end (j ∷ []) k e most d = rw (lt-ltb j k (omega (arith, most j (head refl), eqb-false j k d)))
-climbs-end (j ∷ i ∷ l) k e most d = let h = and-parts (ltb j i) (climbsAfter i l) e in and-make (ltb j i) (climbsAfter i (l ++ (k ∷ []))) (h .0) (climbs-end (i ∷ l) k (h .1) (λ m n. most m (tail n)) d)
+-- so numbers in order without equal neighbours two by two are those that stand an odd number of times
+pub off-odd-ones : (l : List ℕ) → OddOnes l (offPairs eqb (sorted l))
+unfolding climbs
+off-odd-ones l = record {
+  climbing = off-ascends eqb eqb-true least-first (λ k. eq-eqb k k refl) (λ ks. climbs ks ≡ true) refl climbs-front (sorted l) (sorted-twice least-first l);
+  parity = λ f. off-odd eqb eqb-true f (sorted l) ∙ sorted-parity least-first f l;
+}
 
 -- ---- A list cut
 

@@ -1,6 +1,5 @@
 pub mod Keys
 pub mod Climbs
-pub mod Cancelling
 pub mod Gathering
 pub mod Batches
 pub mod Kept

@@ -52,12 +52,6 @@ cornerAt r at-right at-top = record { x = cond at-right (right r) (r .x); y = co
 
 -- ---- The keys that stand an odd number of times
 
--- a list's last number is k
-unfoldable pub endsWith : List ℕ → (k : ℕ) → Bool
-endsWith [] k = false
-endsWith (j ∷ []) k = eqb j k
-endsWith (j ∷ i ∷ rest) k = endsWith (i ∷ rest) k
-
 -- numbers after k stand in strictly rising order
 unfoldable pub climbsAfter : ℕ → List ℕ → Bool
 climbsAfter k [] = true

@@ -7,14 +7,16 @@ ghost use mathlib.Core.Path.{_≡_};
 ghost use mathlib.Core.Bool.{cond, true, false};
 ghost use mathlib.Core.List.{[], _∷_};
 ghost use lib.ListN.{length, take};
+ghost use lib.Dec.{eqb};
 ghost use Prim.Native.Nat.{_+_, _*_, _/_, _<_, _≤_};
 ghost use Rattle.plane.specs.Lists.{atStart};
 ghost use Rattle.plane.specs.Words.{rectInRange, flat, cornersOf, rectsOf, flatPoints};
-ghost use Rattle.plane.specs.Sorted.{sorted};
+ghost use Rattle.plane.specs.Sorted.{offPairs};
+ghost use Rattle.plane.specs.Swaps.{pairedAt};
 ghost use Rattle.rule.specs.Back.{backList};
 ghost use Rattle.rule.specs.BackwardCall.{backwardPoints, BackwardAccepted, BackwardDone};
 ghost use Rattle.rule.specs.Rows.{AcceptedRects};
-ghost use Rattle.outline.specs.Inner.{spansRange, rectOffends, firstOffender, keysOf, pointsOfKeys, endOfKeys, cornerAt, misses, endsWith, OddOnes, mostKeys, Takes, RoomMade, IsBatch};
+ghost use Rattle.outline.specs.Inner.{spansRange, rectOffends, firstOffender, keysOf, pointsOfKeys, endOfKeys, cornerAt, misses, OddOnes, mostKeys, Takes, RoomMade, IsBatch};
 use entry::Counted;
 use entry::FLAT;
 use entry::LENGTH;
@@ -111,31 +113,34 @@ fn corner(r: Rect, right: bool, top: bool) -> Point
 
 // ---- The keys that stand an odd number of times
 
-// Whether the first n keys end with this one.
-fn ends_with(keys: &[u64], n: usize, k: u64) -> bool
-    requires { ⌜ n ≤ length (now keys) ⌝ }
-    ensures { λ r. ⌜ r ≡ endsWith (take n (now (keys .entry))) k ⌝ }
+// Whether the key at place i and the next one are equal.
+fn is_paired(keys: &[u64], i: usize) -> bool
+    requires { ⌜ i < length (now keys) ⌝ }
+    ensures { λ r. ⌜ r ≡ pairedAt eqb 0 (now (keys .entry)) i ⌝ }
 {
-    if 0 < n { keys[n - 1] == k } else { false }
+    if i + 1 < keys.len() {
+        return keys[i] == keys[i + 1];
+    }
+    false
 }
 
-// Of n keys in order, drops equal ones two by two. Gives how many are left.
-fn cancel_pairs(keys: &mut [u64], n: usize) -> usize
-    requires { ⌜ (n ≤ length (now keys)) × (sorted (take n (now keys)) ≡ take n (now keys)) ⌝ }
-    ensures { λ r. ⌜ r ≤ n ⌝ }
-    ensures { λ r. ⌜ OddOnes (take n (now (keys .entry))) (take r (now (keys .exit))) ⌝ }
+// Drops equal keys two by two, where they stand side by side. Gives how many are left at the start.
+fn cancel_pairs(keys: &mut [u64]) -> usize
+    ensures { λ r. ⌜ r ≡ length (offPairs eqb (now (keys .entry))) ⌝ }
+    ensures { λ r. ⌜ now (keys .exit) ≡ atStart (offPairs eqb (now (keys .entry))) (now (keys .entry)) ⌝ }
 {
+    let n = keys.len();
     let mut left = 0;
     let mut i = 0;
     while i < n {
-        let k = keys[i];
-        if ends_with(keys, left, k) {
-            left -= 1;
+        if is_paired(keys, i) {
+            i += 2;
         } else {
+            let k = keys[i];
             keys[left] = k;
             left += 1;
+            i += 1;
         }
-        i += 1;
     }
     left
 }
@@ -146,8 +151,9 @@ fn odd_ones(keys: &mut [u64], n: usize) -> usize
     ensures { λ r. ⌜ r ≤ n ⌝ }
     ensures { λ r. ⌜ OddOnes (take n (now (keys .entry))) (take r (now (keys .exit))) ⌝ }
 {
-    sorting::sort(&mut keys[0..n]);
-    cancel_pairs(keys, n)
+    let firsts = &mut keys[0..n];
+    sorting::sort(firsts);
+    cancel_pairs(firsts)
 }
 
 // ---- A batch

@@ -2,9 +2,9 @@
 use Prim.Native.Nat.{ℕ, _+_, _-_, _*_, _≤_, _<_}
 use native.Mathlib.Omega.{arith}
 use native.Mathlib.Numerals.{add-one}
-use mathlib.Core.Path.{_≡_, sym}
+use mathlib.Core.Path.{_≡_, sym, ap}
 use mathlib.Core.List.{List, [], _∷_, _++_, append-nil, append-assoc}
-use lib.ListN.{length, take, drop, set, length-append, length-drop, take-append-drop}
+use lib.ListN.{length, take, drop, set, length-append, length-take, length-drop, take-append-drop}
 use lib.Seq.{take-length, drop-length, take-append-seam, drop-append-seam, drop-append-add, take-at, drop-at, drop-drop, sets, sets-eq}
 use lib.IntN.{ℤ}
 use Rattle.plane.specs.declared.Point.{Point}
@@ -16,6 +16,14 @@ module _ {A : Type 0} where
   -- it is there, and the rest is as it was
   pub start-starts : (items before : List A) → Starts items before (atStart items before)
   start-starts items before = record { start = take-append-seam items _; rest = drop-append-seam items _ }
+
+  -- of an array whose first part has it at its start, so many as there are of it are it, and the array has so many
+  module _ (items before rest : List A) {now : List A} {n : ℕ} (e : now ≡ atStart items before) (m : n ≡ length items) where
+    pub start-taken : take n (now ++ rest) ≡ items
+    start-taken = rw (e, append-assoc) (take-at items _ n (sym m))
+
+    pub start-within : n ≤ length (now ++ rest)
+    start-within = omega (arith, ap length start-taken, length-take n (now ++ rest))
 
   -- the length stays, where it has room
   pub start-length : (items before : List A) → length items ≤ length before → length (atStart items before) ≡ length before

@@ -1,18 +1,23 @@
--- Laws of lists of which equal neighbours are dropped two by two: every test keeps its parity, and of a list in order each element that is left comes
--- after those before it.
-use mathlib.Core.Path.{_≡_, refl, sym, ap, ap₂, _∙_}
-use Prim.Native.Nat.{ℕ, suc, _≤_}
+-- Equal neighbours dropped two by two: every test keeps its parity, of a list in order each element that is left comes after those before it; and how
+-- far this has come in an array.
+use mathlib.Core.Path.{_≡_, refl, sym, ap, _∙_}
+use Prim.Native.Nat.{ℕ, suc, _+_, _-_, _≤_, _<_}
+use native.Mathlib.Numerals.{add-one}
 use native.Mathlib.Omega.{arith}
-use mathlib.Core.Bool.{Bool, true, false, cond, xor}
-use mathlib.Core.List.{List, [], _∷_, map, List·Memᴰ as In, List·Memᴰ·head as head, List·Memᴰ·tail as tail, List·Memᴰ·not-nil as not-nil}
-use lib.ListN.{length}
-use Rattle.plane.specs.Lists.{odd}
+use mathlib.Core.Bool.{Bool, true, false, cond, _&&_, xor}
+use mathlib.Core.List.{List, [], _∷_, _++_, map, List·Memᴰ as In, List·Memᴰ·head as head, List·Memᴰ·tail as tail, List·Memᴰ·not-nil as not-nil, append-assoc, append-nil}
+use lib.ListN.{length, getD, take, drop, set, length-set, take-append-drop, drop-of-length-le}
+use lib.Seq.{drop-cons, drop-length, drop-drop, drop-set-lt, getD-drop, take-suc-set, length-take-le}
+use lib.Dec.{ltb}
+use borrow.Author.Tests.{ltb-true, ltb-false}
+use Rattle.plane.specs.Lists.{odd, atStart}
 use Rattle.plane.specs.Sorted.{sortedBy, offPairs}
-use Rattle.plane.proofs.Bools.{clash, by, by-no, cond-case, xor-back}
+use Rattle.plane.specs.Swaps.{pairedAt}
+use Rattle.plane.proofs.Bools.{clash, by, by-no, and-parts, cond-case, xor-back}
 use Rattle.plane.proofs.Parity.{odd-cons}
 use Rattle.plane.proofs.Sorted.{IsOrder, sorted-first}
 
--- what holds of no elements, of one, and of both outcomes for two neighbours, holds of what is left
+-- what holds both where two neighbours are dropped and where the first is kept holds of what is left
 off-case : {A : Type 0} (P : List A → Type 0) (equal : A → A → Bool) (a b : A) (l : List A) → (equal a b ≡ true → P (offPairs equal l)) → (equal a b ≡ false → P (a ∷ offPairs equal (b ∷ l))) → P (offPairs equal (a ∷ b ∷ l))
 unfolding offPairs
 off-case P equal a b l dropped kept = cond-case P (equal a b) dropped kept
@@ -88,3 +93,77 @@ module _ {A : Type 0} (equal : A → A → Bool) where
           off-case P equal a b l
           (λ _. off-ascends P none more l (sorted-first is b l later .0))
           (λ e. more a (offPairs equal (b ∷ l)) (off-ascends P none more (b ∷ l) later) (λ c m. first-alone a b l s e (off-in (b ∷ l) m)))
+
+-- ---- In an array
+
+-- of the elements before place i those that are left are the first ones of the array, and from there on it is as it was
+pub record Drops {A : Type 0} (equal : A → A → Bool) (before : List A) (left i : ℕ) (now : List A) : Type 0 where
+  pub left-within : left ≤ i
+  pub within : i ≤ length before
+  pub same-length : length now ≡ length before
+  pub same-past : drop left now ≡ drop left before
+  pub left-so-far : take left now ++ offPairs equal (drop i before) ≡ offPairs equal before
+
+-- of the elements from place i on, that one and the next are dropped if they are paired, and it is left if not
+module _ {A : Type 0} (equal : A → A → Bool) (missing : A) (l : List A) (i : ℕ) where
+  stands-both : pairedAt equal missing l i ≡ true → offPairs equal (drop i l) ≡ offPairs equal (drop (i + 2) l)
+  unfolding offPairs
+  stands-both e =
+      let h = and-parts (ltb (i + 1) (length l)) _ e in
+      let next = ltb-true (i + 1) (length l) (h .0) in
+      let two : i + 2 ≡ suc (i + 1) = omega arith in
+      rw (two, drop-cons l i missing (omega arith), ← add-one i, drop-cons l (i + 1) missing next, h .1)
+
+  stands-one : i < length l → pairedAt equal missing l i ≡ false → offPairs equal (drop i l) ≡ getD l i missing ∷ offPairs equal (drop (i + 1) l)
+  unfolding offPairs
+  stands-one more e = rw (drop-cons l i missing more, ← add-one i) (go (ltb (i + 1) (length l)) refl e)
+    where
+      go : (t : Bool) → ltb (i + 1) (length l) ≡ t → (t && equal (getD l i missing) (getD l (i + 1) missing)) ≡ false → offPairs equal (getD l i missing ∷ drop (i + 1) l) ≡ getD l i missing ∷ offPairs equal (drop (i + 1) l)
+      go true h d = rw (drop-cons l (i + 1) missing (ltb-true (i + 1) (length l) h), d)
+      go false h d = rw (drop-of-length-le l {i = i + 1} (ltb-false (i + 1) (length l) h))
+
+module _ {A : Type 0} (equal : A → A → Bool) (before : List A) where
+  -- none is passed
+  pub drops-none : Drops equal before 0 0 before
+  drops-none = record { left-within = omega arith; within = omega arith; same-length = refl; same-past = refl; left-so-far = refl }
+
+  -- all are passed
+  pub drops-all : {left i : ℕ} {now : List A} → i ≡ length before → Drops equal before left i now → (left ≡ length (offPairs equal before)) × (now ≡ atStart (offPairs equal before) before)
+  unfolding offPairs
+  drops-all {left} {i} {now} e d =
+      let all : take left now ≡ offPairs equal before = sym (append-nil (take left now)) ∙ (rw (e, drop-length before) at (d .left-so-far)) in
+      let many : left ≡ length (offPairs equal before) = sym (length-take-le left now (omega (arith, d .left-within, d .within, d .same-length))) ∙ ap length all in
+      (many, sym (take-append-drop left now) ∙ rw (all, d .same-past, ← many))
+
+  module _ (missing : A) {left i : ℕ} {now : List A} (d : Drops equal before left i now) (more : i < length before) where
+    -- a place that is not yet passed is as it was
+    still : (j : ℕ) → i ≤ j → getD now j missing ≡ getD before j missing
+    still j h =
+        let e : j ≡ left + (j - left) = omega (arith, d .left-within) in
+        ap (λ k. getD now k missing) e ∙ sym (getD-drop left now (j - left) missing) ∙ ap (λ l. getD l (j - left) missing) (d .same-past) ∙ getD-drop left before (j - left) missing ∙ ap (λ k. getD before k missing) (sym e)
+
+    still-paired : pairedAt equal missing now i ≡ pairedAt equal missing before i
+    still-paired = rw (d .same-length, still i (omega arith), still (i + 1) (omega arith))
+
+    -- the next two are of equal points: both are dropped
+    pub drops-both : pairedAt equal missing now i ≡ true → Drops equal before left (i + 2) now
+    drops-both e =
+        let paired = sym still-paired ∙ e in
+        let next = ltb-true (i + 1) (length before) (and-parts (ltb (i + 1) (length before)) _ paired .0) in
+        record { left-within = omega (arith, d .left-within); within = omega arith; same-length = d .same-length; same-past = d .same-past; left-so-far = rw (← stands-both equal missing before i paired) (d .left-so-far) }
+
+    -- they are not: the first is left
+    pub drops-one : pairedAt equal missing now i ≡ false → Drops equal before (left + 1) (i + 1) (set now left (getD now i missing))
+    drops-one e =
+        let a : A = getD now i missing in
+        let room : left < length now = omega (arith, d .left-within, d .same-length) in
+        record {
+          left-within = omega (arith, d .left-within);
+          within = omega arith;
+          same-length = length-set now left a ∙ d .same-length;
+          same-past = drop-set-lt (left + 1) now left a (omega arith) ∙ later;
+          left-so-far = rw (add-one left, take-suc-set now left a room, append-assoc, still i (omega arith), ← stands-one equal missing before i more (sym still-paired ∙ e)) (d .left-so-far);
+        }
+      where
+        later : drop (left + 1) now ≡ drop (left + 1) before
+        later = sym (drop-drop 1 left now) ∙ ap (drop 1) (d .same-past) ∙ drop-drop 1 left before

@@ -1,15 +1,12 @@
 -- The points that remain of an array, at the places that stand in order, stand for the array.
-use mathlib.Core.Path.{_≡_, refl, sym, ap, _∙_}
-use Prim.Native.Nat.{ℕ, _-_, _/_, _≤_}
-use native.Mathlib.Nat.{sub-zero}
+use mathlib.Core.Path.{_≡_, refl, ap, _∙_}
+use Prim.Native.Nat.{ℕ, _/_, _≤_}
 use native.Mathlib.Omega.{arith}
 use mathlib.Core.Bool.{false}
-use mathlib.Core.List.{List, _++_, map, append-assoc}
-use lib.ListN.{length, take, length-take}
-use lib.Seq.{take-at}
+use mathlib.Core.List.{List, map}
+use lib.ListN.{length}
 use lib.IntN.{ℤ}
 use Rattle.plane.specs.declared.Point.{Point}
-use Rattle.plane.specs.Lists.{atStart}
 use Rattle.plane.specs.Words.{same, onRow, inColumn, pointsOf, pointAt, inOrder}
 use Rattle.plane.specs.Remaining.{remaining}
 use Rattle.plane.proofs.Arrays.{length-points}
@@ -55,11 +52,3 @@ order-stands {a} {work} {out} {order} acc e =
       no-more = omega (arith, ap length e, off-length (samePlace ps) (rowOrder ps), order-places a refl);
       same-list = rw at (alike-list (inOrder left) left ordered taken (record { parity = λ f. inOrder-odd f left (taken .once) }));
     }
-
--- an array with these at the start of its first part begins with them
-module _ (places part rest : List ℕ) {now : List ℕ} {n : ℕ} (e : now ≡ atStart places part) (m : n ≡ length places) where
-  pub starts-with : take (n - 0) (now ++ rest) ≡ places
-  starts-with = rw (e, sub-zero n, append-assoc) (take-at places _ n (sym m))
-
-  pub starts-within : n ≤ length (now ++ rest)
-  starts-within = omega (arith, ap length starts-with, length-take (n - 0) (now ++ rest))

@@ -2,7 +2,6 @@ pub mod Lives
 pub mod Past
 pub mod Places
 pub mod InOrder
-pub mod Standing
 pub mod Turning
 pub mod Going
 pub mod Taking

@@ -2,7 +2,7 @@
 use Prim.Native.Nat.{ℕ, _+_, _-_, _*_, _/_, _<_, _≤_}
 use mathlib.Core.Path.{_≡_}
 use mathlib.Core.Logic.{_⊎_}
-use mathlib.Core.Bool.{Bool, true, not, cond, _&&_}
+use mathlib.Core.Bool.{Bool, true, not, cond}
 use mathlib.Core.List.{List, [], _++_}
 use lib.ListN.{length, getD, take, drop, set, replicate}
 use lib.IntN.{ℤ, pos, _-ℤ_}
@@ -303,10 +303,6 @@ pub record Swept (qs : List Point) (writes : Bool) (edge : ℕ) (work before : L
 -- two places are of equal points
 abbrev pub samePlace : List Point → (i j : ℕ) → Bool
 samePlace ps i j = same (pointAt ps i) (pointAt ps j)
-
--- the places at i and after it are
-abbrev pub pairedAt : List Point → (order : List ℕ) → ℕ → Bool
-pairedAt ps order i = ltb (i + 1) (length order) && samePlace ps (getD order i 0) (getD order (i + 1) 0)
 
 -- places without those of equal points, dropped two by two where they stand side by side
 abbrev pub standing : List Point → (order : List ℕ) → List ℕ

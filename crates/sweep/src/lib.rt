@@ -16,6 +16,7 @@ ghost use Prim.Native.Nat.{_+_, _*_, _<_, _≤_};
 ghost use Rattle.plane.specs.Lists.{atStart};
 ghost use Rattle.plane.specs.Words.{eqZ, pointsOf, rectSize, flat, areaOf, mostPoints};
 ghost use Rattle.plane.specs.Edge.{edgeLength};
+ghost use Rattle.plane.specs.Swaps.{pairedAt};
 ghost use Rattle.entry.specs.Checks.{verdict};
 ghost use Rattle.entry.specs.Entry.{counted};
 ghost use Rattle.rule.specs.Rule.{ruleList};
@@ -23,7 +24,7 @@ ghost use Rattle.rule.specs.ForwardCall.{ForwardAccepted, pointsRemaining, forw
 ghost use Rattle.live.specs.Stands.{far, number};
 ghost use Rattle.sweep.specs.Inner.{putRect, liveSize, liveAt, putLive, zeroed, farPoint, farLive, nextPoint, nextLive, onRowOf, carriedPoint, nearer};
 ghost use Rattle.sweep.specs.Inner.{withOpened, startOf, cancelled, takenFrom, newLive, endPut, endPutWork, passing, carrying, leftEnd, cutTo, cutWork};
-ghost use Rattle.sweep.specs.Inner.{endedBox, atRow, Turned, sweptPoints, Ready, Underway, Advanced, Swept, pairedAt, standing, Ordered, StandFor, mostBegun};
+ghost use Rattle.sweep.specs.Inner.{endedBox, atRow, Turned, sweptPoints, Ready, Underway, Advanced, Swept, samePlace, standing, Ordered, StandFor, mostBegun};
 use checks::order_points;
 use entry::Counted;
 use entry::DONE;
@@ -566,7 +567,7 @@ fn count_then_write(
 // Whether the places i and i + 1 are of equal points.
 fn is_paired(points: &[i32], order: &[u16], i: usize) -> bool
     requires { ⌜ i < length (now order) ⌝ }
-    ensures { λ r. ⌜ r ≡ pairedAt (pointsOf (now (points .entry))) (now (order .entry)) i ⌝ }
+    ensures { λ r. ⌜ r ≡ pairedAt (samePlace (pointsOf (now (points .entry)))) 0 (now (order .entry)) i ⌝ }
 {
     if i + 1 < order.len() {
         let p = point_at(points, order[i] as usize);

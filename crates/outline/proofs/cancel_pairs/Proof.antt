@@ -1,52 +1,57 @@
--- `outline::cancel_pairs` meets its contract. The invariant: of the first i keys, equal ones are dropped two by two.
-use Prim.Native.Nat.{ℕ, _≤_, _-_}
+-- `outline::cancel_pairs` meets its contract. The invariant: of the keys before i those that are left are at the start.
+use Prim.Native.Nat.{_+_, _-_, _<_}
 use native.Mathlib.Omega.{arith}
-use mathlib.Core.Path.{_≡_, refl, sym, _∙_}
-use mathlib.Core.Logic.{⊎-elim}
-use lib.ListN.{length, take, length-set}
-use lib.Seq.{slice, slice-empty}
+use mathlib.Core.Path.{sym, _∙_}
+use lib.ListN.{length}
+use lib.Dec.{eqb}
 use borrow.Author.Needs.{needs}
-use Rattle.outline.proofs.Climbs.{ends-with-some}
-use Rattle.outline.proofs.Cancelling.{Cancels, cancels-none, cancels-all, cancels-next}
+use Rattle.plane.proofs.Pairs.{Drops, drops-none, drops-both, drops-one, drops-all}
 use Rattle.outline.proofs.cancel_pairs.Statement.{statement}
 use Rattle.outline.proofs.cancel_pairs.Tie as tie
 
 abbrev Inv-loop : tie.InvT-loop
-Inv-loop keys₀ n left₀ i₀ keys left i = (left ≤ i) × (i ≤ n) × (length keys ≡ length keys₀) × Cancels (take n keys₀) (take left keys) (slice i n keys)
+Inv-loop keys₀ n left₀ i₀ keys left i = Drops eqb keys₀ left i keys
 
 abbrev μ-loop : tie.MeasureT-loop
 μ-loop keys₀ n left₀ i₀ keys left i = n - i
 
 loop-holds : tie.Need-loop-holds Inv-loop μ-loop
-loop-holds c = (search needs, search needs, refl, cancels-none (c .before .pre .1))
+loop-holds c = drops-none _ _
 
-sub-left : tie.Need-sub-left Inv-loop μ-loop
-sub-left c =
-    let g = c .before in
-    let l = g .before .before .before .before .loop in
-    omega (arith, ends-with-some (l .keys) (l .left) _ (sym (g .ends-with .ensures) ∙ c .if1 .taken))
+-- a place that is reached is one of the array
+reached : (c : tie.In-loop Inv-loop μ-loop) → c .before .loop .i < length (c .before .loop .keys)
+reached c = omega (arith, c .before .loop .inv .same-length, c .loop-test .taken)
 
-loop-again : tie.Need-loop-again Inv-loop μ-loop
-loop-again c =
-    let g = c .before in
-    let t = g .before .before .before in
-    let l = t .before .loop in
-    let v = l .inv in
-    let n : ℕ = t .before .before .before .args .n in
-    let next = cancels-next (l .keys) n (l .left) (l .i) (omega arith) (v .0) (t .loop-test .taken) (v .3) in
-    ⊎-elim
-    (λ w. rw (w .1, w .2) (search needs, search needs, v .2, next .0 (sym (g .ends-with .ensures) ∙ w .0 .taken)))
-    (λ w. rw (w .1, w .2) (search needs, search needs, simp length-set (v .2), next .1 (sym (g .ends-with .ensures) ∙ w .0 .left)))
-    (c .if1 .came)
+-- two of equal points are passed
+passed : (c : tie.Then1 Inv-loop μ-loop) → let l = c .before .before .before .before in let s = l .before .before .args in Drops eqb (s .keys .now) (l .loop .left) (l .loop .i + 2) (l .loop .keys)
+passed c =
+    let p = c .before in
+    let t = p .before .before in
+    drops-both _ _ 0 (t .before .loop .inv) (t .loop-test .taken) (sym (p .is-paired .ensures) ∙ c .if1 .taken)
+
+add-i : tie.Need-add-i Inv-loop μ-loop
+add-i c = let most = passed c .within in search needs
+
+loop-less : tie.Need-loop-less Inv-loop μ-loop
+loop-less c = omega (arith, passed c .within)
+
+slice-write-keys : tie.Need-slice-write-keys Inv-loop μ-loop
+slice-write-keys c = let t = c .before .before .before .before in omega (arith, reached t, t .before .loop .inv .left-within)
+
+loop-again-2 : tie.Need-loop-again-2 Inv-loop μ-loop
+loop-again-2 c =
+    let e = c .before in
+    let t = e .before .before .before in
+    drops-one _ _ 0 (t .before .loop .inv) (t .loop-test .taken) (sym (e .before .is-paired .ensures) ∙ e .if1 .left)
 
 returns : tie.Need-returns Inv-loop μ-loop
 returns c =
-    let l = c .before .loop in
-    let n : ℕ = c .before .before .before .args .n in
-    let e : l .i ≡ n = omega arith in
-    (search needs, cancels-all (rw (e, slice-empty n (l .keys)) at (l .inv .3)))
+    let l = c .before in
+    drops-all _ _ (omega (arith, l .loop .inv .within)) (l .loop .inv)
 
 pub cancel-pairs-spec : {M : Type 1} → statement M
 cancel-pairs-spec =
     tie.close
-    (tie.spec Inv-loop μ-loop loop-holds (λ c. search needs) (λ c. search needs) (λ c κs. search needs) sub-left (λ c. search needs) (λ c. search needs) (λ c. search needs) (λ c. search needs) (λ c. search needs) loop-again (λ c. search needs) returns)
+    (tie.spec
+    Inv-loop μ-loop loop-holds (λ c κs. reached (c .before)) add-i loop-less passed (λ c. search needs) (λ c. search needs) (λ c. search needs) slice-write-keys
+    (λ c. search needs) (λ c. search needs) (λ c. search needs) loop-again-2 (λ c. c .before .loop .inv .same-length) returns)

@@ -5,12 +5,13 @@ use mathlib.Core.Path.{sym, _∙_}
 use lib.ListN.{length}
 use borrow.Author.Needs.{needs}
 use Rattle.plane.specs.Words.{pointsOf}
-use Rattle.sweep.proofs.Standing.{Drops, drops-none, drops-both, drops-one, drops-all}
+use Rattle.plane.proofs.Pairs.{Drops, drops-none, drops-both, drops-one, drops-all}
+use Rattle.sweep.specs.Inner.{samePlace}
 use Rattle.sweep.proofs.drop_pairs.Statement.{statement}
 use Rattle.sweep.proofs.drop_pairs.Tie as tie
 
 abbrev Inv-loop : tie.InvT-loop
-Inv-loop points order₀ n left₀ i₀ order left i = Drops (pointsOf points) order₀ left i order
+Inv-loop points order₀ n left₀ i₀ order left i = Drops (samePlace (pointsOf points)) order₀ left i order
 
 abbrev μ-loop : tie.MeasureT-loop
 μ-loop points order₀ n left₀ i₀ order left i = n - i
@@ -23,11 +24,11 @@ reached : (c : tie.In-loop Inv-loop μ-loop) → c .before .loop .i < length (c 
 reached c = omega (arith, c .before .loop .inv .same-length, c .loop-test .taken)
 
 -- two of equal points are passed
-passed : (c : tie.Then1 Inv-loop μ-loop) → let l = c .before .before .before .before in let s = l .before .before .args in Drops (pointsOf (s .points .now)) (s .order .now) (l .loop .left) (l .loop .i + 2) (l .loop .order)
+passed : (c : tie.Then1 Inv-loop μ-loop) → let l = c .before .before .before .before in let s = l .before .before .args in Drops (samePlace (pointsOf (s .points .now))) (s .order .now) (l .loop .left) (l .loop .i + 2) (l .loop .order)
 passed c =
     let p = c .before in
     let t = p .before .before in
-    drops-both _ _ (t .before .loop .inv) (t .loop-test .taken) (sym (p .is-paired .ensures) ∙ c .if1 .taken)
+    drops-both _ _ 0 (t .before .loop .inv) (t .loop-test .taken) (sym (p .is-paired .ensures) ∙ c .if1 .taken)
 
 add-i : tie.Need-add-i Inv-loop μ-loop
 add-i c = let most = passed c .within in search needs
@@ -42,7 +43,7 @@ loop-again-2 : tie.Need-loop-again-2 Inv-loop μ-loop
 loop-again-2 c =
     let e = c .before in
     let t = e .before .before .before in
-    drops-one _ _ (t .before .loop .inv) (t .loop-test .taken) (sym (e .before .is-paired .ensures) ∙ e .if1 .left)
+    drops-one _ _ 0 (t .before .loop .inv) (t .loop-test .taken) (sym (e .before .is-paired .ensures) ∙ e .if1 .left)
 
 returns : tie.Need-returns Inv-loop μ-loop
 returns c =

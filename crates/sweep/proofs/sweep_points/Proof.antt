@@ -12,6 +12,7 @@ use Rattle.plane.specs.declared.Point.{Point}
 use Rattle.plane.specs.Lists.{atStart}
 use Rattle.plane.specs.Words.{pointsOf, rectSize}
 use Rattle.plane.specs.Edge.{edgeLength}
+use Rattle.plane.proofs.AtStart.{start-taken, start-within}
 use Rattle.plane.proofs.Remaining.{remaining-edge}
 use Rattle.ordering.specs.Orders.{rowOrder}
 use Rattle.entry.specs.Checks.{verdict, accepted}
@@ -20,7 +21,7 @@ use Rattle.entry.proofs.Entry.{counted-accepted, counted-refused}
 use Rattle.rule.specs.ForwardCall.{forwardAnswer, forwardWork, forwardOut, ForwardAccepted, pointsRemaining, forwardList, inputChecks}
 use Rattle.rule.proofs.ForwardCall.{input-numbered, input-accepted, input-refused, input-refused-not-8}
 use Rattle.sweep.specs.Inner.{standing}
-use Rattle.sweep.proofs.InOrder.{order-places, order-stands, starts-with, starts-within}
+use Rattle.sweep.proofs.InOrder.{order-places, order-stands}
 use Rattle.sweep.proofs.sweep_points.Statement.{statement}
 use Rattle.sweep.proofs.sweep_points.Tie as tie
 
@@ -84,13 +85,13 @@ left-first d = d .drop-pairs .ensures .1 ∙ ap (λ o. atStart (standing (given 
 part-count-then-write-end : tie.Need-part-count-then-write-end
 part-count-then-write-end c =
     let d = c .before .before in
-    starts-within (places d) (rowOrder (given d)) _ (left-first d) (left-counted d)
+    start-within (places d) (rowOrder (given d)) _ (left-first d) (left-counted d)
 
 count-then-write-requires : tie.Need-count-then-write-requires
 count-then-write-requires c κs =
     let d = c .before .before .before .before .before in
     let e = dropped d in
-    (ready e, (order-stands (ready e) (starts-with (places d) (rowOrder (given d)) _ (left-first d) (left-counted d)), edge-told e))
+    (ready e, (order-stands (ready e) (start-taken (places d) (rowOrder (given d)) _ (left-first d) (sub-zero (d .drop-pairs .result) ∙ left-counted d)), edge-told e))
 
 returns : tie.Need-returns
 unfolding forwardAnswer forwardWork forwardOut

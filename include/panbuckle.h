@@ -53,10 +53,10 @@ extern "C" {
  * or the order of an array's numbers changes; not when a function or a refusal is added. The archive's function has it in its name, and
  * every program that includes this header refers to that name, so that it does not link with an archive of another version. (A compiler that
  * does not know the attribute retain, as gcc before 11, cannot keep a linker that drops unused sections from dropping this reference.) */
-#define PANBUCKLE_VERSION 2
-#define panbuckle_version panbuckle_version_2
-uint32_t panbuckle_version_2(void);
-PANBUCKLE_KEPT static uint32_t (*const panbuckle_linked)(void) = panbuckle_version_2;
+#define PANBUCKLE_VERSION 3
+#define panbuckle_version panbuckle_version_3
+uint32_t panbuckle_version_3(void);
+PANBUCKLE_KEPT static uint32_t (*const panbuckle_linked)(void) = panbuckle_version_3;
 
 /* The answers. Each is given exactly when its words hold, and those of no earlier check of the function do. With PANBUCKLE_DONE the list,
  * the points or the rectangle is written. On any other answer nothing is written to them, and the place says where: the first point or
@@ -91,26 +91,29 @@ enum {
 };
 
 /* Forward: the points, in any order, become disjoint rectangles that cover just the cells which the points mark, in rising order of Y,
- * then X.
+ * then X. A point may be listed more than once, as where two shapes meet at a corner: listed an even number of times it vanishes, otherwise it
+ * stands once. The list, its sums and the bound below are of the points that remain; the checks, their places and the length of work are of the
+ * points as given.
  *
  * points   x and y, point after point: only read. An empty array is accepted and has no rectangles.
  * work     scratch space, points_length numbers at least. With PANBUCKLE_DONE and PANBUCKLE_ROOM its first points_length numbers are 0
  *          afterwards; otherwise it is as it was. What is past them is never touched.
  * rects    room for the list, four numbers to a rectangle. With PANBUCKLE_DONE it begins with X, Y, W, H of each; what is past them,
  *          and all of it on any refusal, is as it was. To learn how many rectangles there are, lend no room, NULL and 0: PANBUCKLE_ROOM's
- *          place is their number; then lend four numbers for each. n points on r rows have at most n / 2 * (r - 1) of them; the most
- *          that were seen of 4096 points are 1048576.
+ *          place is their number; then lend four numbers for each. n points that remain, on r rows, have at most
+ *          n / 2 * (r - 1) of them; the most that were seen of 4096 points are 1048576.
  * result   answer, place, count, area, edge: always all five are written. The edge counts the unit sides of marked cells that border on one
  *          that is not marked, so that it has no seams: on each row the points by rising x in pairs, the distances added, and the same by
  *          columns. It is at most 2000000000 for each point.
  *
- * Checked in this order, each over the whole input: LENGTH, MANY, WORK, RANGE, REPEATED, ROW, COLUMN, ROOM. */
+ * Checked in this order, each over the whole input: LENGTH, MANY, WORK, RANGE, ROW, COLUMN, ROOM. */
 PANBUCKLE_ACCESS(__read_only__, 1, 2) PANBUCKLE_ACCESS(__write_only__, 3, 4) PANBUCKLE_ACCESS(__write_only__, 5, 6)
 uint32_t panbuckle_forward(const int32_t *PANBUCKLE_LENT points, size_t points_length, int32_t *PANBUCKLE_LENT work, size_t work_length,
                            int32_t *PANBUCKLE_LENT rects, size_t rects_length, uint64_t result[PANBUCKLE_FIXED 5]);
 
 /* One step of forward: takes the first rectangle of the points that stand in a working array, and leaves there the points of the rest.
- * Forward is this, from the points copied in, until PANBUCKLE_DRAINED.
+ * Forward is this, from the points that remain, copied in where each is first listed, until PANBUCKLE_DRAINED. A step itself refuses a point that
+ * is there twice.
  *
  * work     the points at its start, two numbers to each. With PANBUCKLE_DONE it begins with the points that are left, and up to twice the
  *          count given zeros follow them; what is past that, and all of it on any refusal, is as it was. Points keep their places: into
@@ -125,8 +128,8 @@ uint32_t panbuckle_step(int32_t *PANBUCKLE_LENT work, size_t work_length, size_t
                         uint64_t result[PANBUCKLE_FIXED 3]);
 
 /* Backward: the points that are a corner of an odd number of the rectangles, once each, in order of y, then x. The rectangles may overlap
- * or repeat. Backward of forward's list gives forward's points, in this order, if the list has at most PANBUCKLE_MOST_RECTS rectangles. Of
- * a longer one, which 516 points can have, the answer is PANBUCKLE_MANY.
+ * or repeat. Backward of forward's list gives the points that remain of forward's, in this order, if the list has at most
+ * PANBUCKLE_MOST_RECTS rectangles. Of a longer one, which 516 points can have, the answer is PANBUCKLE_MANY.
  *
  * rects    X, Y, W, H, rectangle after rectangle: only read.
  * points   room for the points, two numbers to each. With PANBUCKLE_DONE it begins with x and y of each; what is past them, and all of it

@@ -2,7 +2,7 @@
 
 mod face {
     extern "C" {
-        pub fn panbuckle_version_2() -> u32;
+        pub fn panbuckle_version_3() -> u32;
         pub fn panbuckle_forward(
             points: *const i32,
             points_length: usize,
@@ -18,13 +18,13 @@ mod face {
 }
 
 /// The version of the face that is declared above.
-const VERSION: u32 = 2;
+const VERSION: u32 = 3;
 
 /// The version of the archive, which has it in the function's name too. Every call below asks for it, so that a program with declarations of
 /// another version does not link.
 pub fn version() -> u32 {
     // SAFETY: it takes nothing.
-    unsafe { face::panbuckle_version_2() }
+    unsafe { face::panbuckle_version_3() }
 }
 
 /// A refusal: its number and its place, as `include/panbuckle.h` says them.

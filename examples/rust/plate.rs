@@ -30,6 +30,10 @@ fn main() {
     // A ring: 16 around it and 8 around its hole; where its rectangles abut there is no edge.
     let ring = [0, 0, 4, 0, 0, 4, 4, 4, 1, 1, 3, 1, 1, 3, 3, 3];
     assert_eq!(forward(&ring, &mut work, &mut rects), Ok(Sums { count: 4, area: 12, edge: 24 }));
+    // Two squares that meet at a corner, which both list: it cancels.
+    let touching = [0, 0, 1, 0, 0, 1, 1, 1, 1, 1, 2, 1, 1, 2, 2, 2];
+    assert_eq!(forward(&touching, &mut work, &mut rects), Ok(Sums { count: 2, area: 2, edge: 8 }));
+    assert_eq!(rects[..8], [0, 0, 1, 1, 1, 1, 1, 1]);
     assert_eq!(forward(&[], &mut [], &mut []), Ok(Sums { count: 0, area: 0, edge: 0 }));
     println!("{:?}", rects);
 }

@@ -1,7 +1,7 @@
 -- What the private functions speak of. No caller needs these definitions: the promise is in the crate `rule`.
 use Prim.Native.Nat.{ℕ, _+_, _*_, _<_, _≤_}
 use mathlib.Core.Path.{_≡_}
-use mathlib.Core.Bool.{Bool, true, false, not, cond, _&&_, _||_, xor}
+use mathlib.Core.Bool.{Bool, true, not, cond, _&&_, _||_, xor}
 use mathlib.Core.List.{List, [], _∷_, _++_, map}
 use lib.ListN.{length, take}
 use lib.IntN.{ℤ, _+ℤ_}

@@ -62,6 +62,6 @@ pub record StepCalled (work : List ℤ) (n : ℕ) (rect : List ℤ) (r : ℕ) (w
 
 -- ---- The version
 
--- what panbuckle_version_2 returns
+-- what panbuckle_version_3 returns
 abbrev pub version : ℕ
-version = 2
+version = 3

@@ -12,7 +12,7 @@ use panbuckle::Rect;
 use panbuckle::StepAnswer;
 
 // The face's version, which rises by one when a program that was built with an older header would go wrong.
-pub const VERSION: u32 = 2;
+pub const VERSION: u32 = 3;
 
 // ---- The numbers of an answer
 
@@ -98,7 +98,7 @@ pub extern "C" fn panbuckle_backward(
 
 // The version. The name has it too, so that a program that was built with another version's header does not link.
 #[no_mangle]
-pub extern "C" fn panbuckle_version_2() -> u32
+pub extern "C" fn panbuckle_version_3() -> u32
     ensures { λ r. ⌜ r ≡ version ⌝ }
 {
     VERSION

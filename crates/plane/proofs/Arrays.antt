@@ -6,7 +6,7 @@ use native.Mathlib.Numerals.{add-one}
 use native.Mathlib.Omega.{arith}
 use mathlib.Core.List.{List, [], _∷_, _++_}
 use lib.ListN.{length, getD, take, drop, set}
-use lib.Seq.{take-suc, take-all, take-at}
+use lib.Seq.{take-suc}
 use lib.IntN.{ℤ, pos}
 use Rattle.plane.specs.declared.Point.{Point}
 use Rattle.plane.specs.declared.Rect.{Rect}
@@ -76,14 +76,6 @@ points-rest zero a h = refl
 points-rest (suc n) [] h = absurd (omega arith)
 points-rest (suc n) (x ∷ []) h = absurd (omega arith)
 points-rest (suc n) (x ∷ y ∷ rest) h = rw (twice-suc n) (ap (λ (l : List ℤ). x ∷ y ∷ l) (points-rest n rest (omega arith)))
-
--- an array's points as an array are its start: all of it, but for a last number without a partner
-pub points-start : (a : List ℤ) → take (2 * (length a / 2)) a ≡ flatPoints (pointsOf a)
-points-start a =
-    let n : ℕ = length a / 2 in
-    let ps : List Point = pointsOf a in
-    let e : a ≡ flatPoints ps ++ drop (2 * n) a = rw (take-all n ps (omega (arith, length-points a))) at (points-rest n a (omega arith)) in
-    ap (take (2 * n)) e ∙ take-at (flatPoints ps) (drop (2 * n) a) (2 * n) (omega (arith, length-flat-points ps, length-points a))
 
 -- ---- Items of four numbers
 

@@ -5,7 +5,7 @@ use Prim.Native.Nat.{ℕ, _+_, _*_, _≤_}
 use native.Mathlib.Omega.{arith}
 use mathlib.Core.Logic.{_⊎_, inl, inr, ⊎-elim}
 use mathlib.Core.Bool.{Bool, true, false, _&&_, xor, and-comm, and-true}
-use mathlib.Core.List.{List, _∷_, map, List·Memᴰ as In, List·Memᴰ·head as head, List·Memᴰ·tail as tail}
+use mathlib.Core.List.{List, map, List·Memᴰ as In}
 use lib.ListN.{length, length-map}
 use lib.IntN.{ℤ, pos, predℤ, _+ℤ_}
 use lib.Signed.{leZ, ltZ}
@@ -16,10 +16,10 @@ use Rattle.plane.specs.Sorted.{sortedBy}
 use Rattle.plane.specs.Remaining.{Balanced}
 use Rattle.plane.specs.Edge.{pairs, line, lineEdge, xOf, yOf, edgeLength, lowerSide, leftSide, unitSides}
 use Rattle.plane.proofs.Order.{order, eqZ-is, eqZ-refl, pos-up, neg-up, pred-up, range-up}
-use Rattle.plane.proofs.Bools.{clash, by, and-parts, and-make, xor-back}
+use Rattle.plane.proofs.Bools.{clash, by, and-parts, and-make}
 use Rattle.plane.proofs.Sums.{below-cong, below-swap}
 use Rattle.plane.proofs.Maps.{map-all}
-use Rattle.plane.proofs.Parity.{odd-cons, odd-cong, odd-xor, odd-find, classes-even}
+use Rattle.plane.proofs.Parity.{odd-cong, odd-xor, odd-find, classes-even}
 use Rattle.plane.proofs.Sorted.{IsOrder, sorted-sum, sorted-in, sorted-length, sorted-twice}
 use Rattle.plane.proofs.Lines.{pairs-most, line-odd, lines-count, linedBefore, lines-ordered, lines-in-order}
 

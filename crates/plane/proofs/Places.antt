@@ -9,7 +9,7 @@ use native.Mathlib.Omega.{arith}
 use mathlib.Core.Bool.{Bool, true, false, not, cond}
 use mathlib.Core.List.{List, [], _∷_, _++_, List·Memᴰ as In, List·Memᴰ·head as head, List·Memᴰ·tail as tail}
 use lib.ListN.{length, getD, take, drop, set, drop-of-length-le, length-set, length-take, length-drop}
-use lib.Seq.{take-nil, take-suc, take-set-lt, length-take-le, drop-cons, drop-drop, drop-set-lt, getD-take, getD-set-same, set-split}
+use lib.Seq.{take-nil, take-set-lt, length-take-le, drop-cons, drop-drop, drop-set-lt, getD-take, getD-set-same, set-split}
 use lib.IntN.{ℤ}
 use borrow.Author.Tests.{not-false}
 use Rattle.plane.specs.declared.Point.{Point}
@@ -34,10 +34,6 @@ module _ {A : Type 0} where
   at-in : {l : List A} {a : A} (d : A) → In a l → (i : ℕ) × (i < length l) × (getD l i d ≡ a)
   at-in d (head e) = (0, omega arith, sym e)
   at-in d (tail m) = let r = at-in d m in (suc (r .0), omega arith, r .2)
-
-  -- the first n elements are those before the last of them, and this
-  pub take-last : (l : List A) (n : ℕ) (d : A) → 0 < n → n ≤ length l → take n l ≡ take (n - 1) l ++ (getD l (n - 1) d ∷ [])
-  take-last l n d h m = let e : n ≡ suc (n - 1) = omega arith in ap (λ (i : ℕ). take i l) e ∙ take-suc l (n - 1) d (omega arith)
 
   -- an element set at the last place comes after the others
   pub set-last : (l : List A) (j : ℕ) (a : A) → length l ≡ j + 1 → set l j a ≡ take j l ++ (a ∷ [])

@@ -9,7 +9,7 @@ use lib.ListN.{length}
 use lib.IntN.{ℤ}
 use Rattle.plane.specs.declared.Point.{Point}
 use Rattle.plane.specs.Lists.{bit, any, count, odd, keep, only}
-use Rattle.plane.specs.Words.{same, onRow, inColumn, before, rising, risingAfter, inOrder, marks}
+use Rattle.plane.specs.Words.{same, onRow, inColumn, rising, inOrder, marks}
 use Rattle.plane.specs.Sorted.{sortedBy, offPairs}
 use Rattle.plane.specs.Swaps.{SameItems}
 use Rattle.plane.specs.Edge.{xOf, yOf, edgeLength}

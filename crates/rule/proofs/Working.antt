@@ -24,7 +24,7 @@ unfolding padded
 padded-length n ps few = omega (arith, length-append (flatPoints ps) (replicate (2 * (n - length ps)) (pos 0)), length-flat-points ps, length-replicate (2 * (n - length ps)) (pos 0))
 
 -- where all points given are there, there are no zeros
-pub padded-full : (n : ℕ) (ps : List Point) → length ps ≡ n → padded n ps ≡ flatPoints ps
+padded-full : (n : ℕ) (ps : List Point) → length ps ≡ n → padded n ps ≡ flatPoints ps
 unfolding padded
 padded-full n ps e = let none : 2 * (n - length ps) ≡ 0 = omega arith in rw (none, append-nil (flatPoints ps))
 

@@ -550,15 +550,15 @@ fn count_then_write(
     requires { ⌜ edge ≡ edgeLength (pointsRemaining (now points)) ⌝ }
     ensures { λ r. ⌜ ForwardDone (now (points .entry)) (now (work .entry)) (now (rects .entry)) r (now (work .exit)) (now (rects .exit)) ⌝ }
 {
-    let n = points.len() / 2;
+    let given = points.len() / 2;
     let counted = sweep_all(points, order, work, rects, false, edge);
     let needed = counted.count;
     if rects.len() / RECT_SIZE < needed {
-        zero_start(work, 2 * n);
+        zero_start(work, 2 * given);
         return no_list(ROOM, needed as u64);
     }
     let done = sweep_all(points, order, work, rects, true, edge);
-    zero_start(work, 2 * n);
+    zero_start(work, 2 * given);
     done
 }
 

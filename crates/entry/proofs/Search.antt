@@ -40,6 +40,14 @@ none-bad n t = go (first-found n t)
     go (at h e f) l = absurd (omega arith)
     go (nowhere f) l = f
 
+-- before the place that is found the test passes nowhere
+pub none-before : (n : ℕ) (t : ℕ → Bool) → (firstBad n t ≤ n) × NoneBelow (firstBad n t) t
+none-before n t = go (first-found n t)
+  where
+    go : {i : ℕ} → Found n t i → (i ≤ n) × NoneBelow i t
+    go (at h e f) = (omega arith, f)
+    go (nowhere f) = (omega arith, f)
+
 -- ---- A loop that goes through the places until a test passes
 
 module _ {n many : ℕ} (places : many ≡ n) {t : ℕ → Bool} {i : ℕ} (none-yet : NoneBelow i t) where

@@ -1,4 +1,5 @@
--- Laws of numbers in strictly rising order: one is put first, equal ones are dropped two by two, a list is cut, and a list is determined by its numbers.
+-- Laws of numbers in strictly rising order: one is put first, equal ones are dropped two by two, a list is cut, and a list is determined by its
+-- numbers.
 use Prim.Native.Nat.{ℕ, zero, suc, _-_, _<_, _≤_}
 use native.Mathlib.Omega.{arith}
 use mathlib.Core.Path.{_≡_, refl, sym, ap₂, _∙_}

@@ -1,13 +1,13 @@
 -- Equal neighbours dropped two by two: every test keeps its parity, of a list in order each element that is left comes after those before it; and how
 -- far this has come in an array.
-use mathlib.Core.Path.{_≡_, refl, sym, ap, _∙_}
-use Prim.Native.Nat.{ℕ, suc, _+_, _-_, _≤_, _<_}
+use mathlib.Core.Path.{_≡_, refl, sym, ap, subst, _∙_}
+use Prim.Native.Nat.{ℕ, zero, suc, _+_, _-_, _≤_, _<_}
 use native.Mathlib.Numerals.{add-one}
 use native.Mathlib.Omega.{arith}
 use mathlib.Core.Bool.{Bool, true, false, cond, _&&_, xor}
 use mathlib.Core.List.{List, [], _∷_, _++_, map, List·Memᴰ as In, List·Memᴰ·head as head, List·Memᴰ·tail as tail, List·Memᴰ·not-nil as not-nil, append-assoc, append-nil}
 use lib.ListN.{length, getD, take, drop, set, length-set, take-append-drop, drop-of-length-le}
-use lib.Seq.{drop-cons, drop-length, drop-drop, drop-set-lt, getD-drop, take-suc-set, length-take-le}
+use lib.Seq.{drop-cons, drop-length, drop-drop, drop-set-lt, getD-drop, set-getD, take-suc-set, length-take-le}
 use lib.Dec.{ltb}
 use borrow.Author.Tests.{ltb-true, ltb-false}
 use Rattle.plane.specs.Lists.{odd, atStart}
@@ -124,7 +124,7 @@ module _ {A : Type 0} (equal : A → A → Bool) (missing : A) (l : List A) (i :
 
 module _ {A : Type 0} (equal : A → A → Bool) (before : List A) where
   -- none is passed
-  pub drops-none : Drops equal before 0 0 before
+  drops-none : Drops equal before 0 0 before
   drops-none = record { left-within = omega arith; within = omega arith; same-length = refl; same-past = refl; left-so-far = refl }
 
   -- all are passed
@@ -142,10 +142,11 @@ module _ {A : Type 0} (equal : A → A → Bool) (before : List A) where
         let e : j ≡ left + (j - left) = omega (arith, d .left-within) in
         ap (λ k. getD now k missing) e ∙ sym (getD-drop left now (j - left) missing) ∙ ap (λ l. getD l (j - left) missing) (d .same-past) ∙ getD-drop left before (j - left) missing ∙ ap (λ k. getD before k missing) (sym e)
 
+    -- and so is whether it is paired
     still-paired : pairedAt equal missing now i ≡ pairedAt equal missing before i
     still-paired = rw (d .same-length, still i (omega arith), still (i + 1) (omega arith))
 
-    -- the next two are of equal points: both are dropped
+    -- the next two are equal: both are dropped
     pub drops-both : pairedAt equal missing now i ≡ true → Drops equal before left (i + 2) now
     drops-both e =
         let paired = sym still-paired ∙ e in
@@ -167,3 +168,9 @@ module _ {A : Type 0} (equal : A → A → Bool) (before : List A) where
       where
         later : drop (left + 1) now ≡ drop (left + 1) before
         later = sym (drop-drop 1 left now) ∙ ap (drop 1) (d .same-past) ∙ drop-drop 1 left before
+
+  -- where no two before place i are paired, all before it are left
+  pub drops-from : (missing : A) (i : ℕ) → i ≤ length before → ((j : ℕ) → j < i → pairedAt equal missing before j ≡ false) → Drops equal before i i before
+  drops-from missing zero h none = drops-none
+  drops-from missing (suc i) h none =
+      rw add-one at (subst (λ l. Drops equal before (i + 1) (i + 1) l) (set-getD before i missing) (drops-one missing (drops-from missing i (omega arith) (λ j l. none j (omega arith))) (omega arith) (none i (omega arith))))

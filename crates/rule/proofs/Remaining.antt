@@ -1,5 +1,5 @@
--- Request 2: points in range with even rows and columns, once they have cancelled, are points that the rule takes; so demands 2 and 3 and the round trip
--- hold of those that remain, and demand 3 of the points as given too.
+-- Request 2: points in range with even rows and columns, once they have cancelled, are points that the rule takes; so demands 2 and 3 and the round
+-- trip hold of those that remain, and demand 3 of the points as given too.
 use mathlib.Core.Path.{_≡_, ap, _∙_}
 use mathlib.Core.Logic.{_↔_}
 use mathlib.Core.List.{List}

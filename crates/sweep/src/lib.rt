@@ -17,7 +17,7 @@ ghost use Rattle.plane.specs.Lists.{atStart};
 ghost use Rattle.plane.specs.Words.{eqZ, pointsOf, rectSize, flat, areaOf, mostPoints};
 ghost use Rattle.plane.specs.Edge.{edgeLength};
 ghost use Rattle.plane.specs.Swaps.{pairedAt};
-ghost use Rattle.entry.specs.Checks.{verdict};
+ghost use Rattle.entry.specs.Checks.{firstBad, verdict};
 ghost use Rattle.entry.specs.Entry.{counted};
 ghost use Rattle.rule.specs.Rule.{ruleList};
 ghost use Rattle.rule.specs.ForwardCall.{ForwardAccepted, pointsRemaining, forwardList, ForwardDone, inputChecks};
@@ -576,14 +576,30 @@ fn is_paired(points: &[i32], order: &[u16], i: usize) -> bool
     false
 }
 
+// The first place that is paired with the next one, and their number where none is: then nothing is dropped, so that this is all that points of which
+// none is repeated go through.
+fn first_pair(points: &[i32], order: &[u16]) -> usize
+    ensures { λ r. ⌜ r ≡ firstBad (length (now (order .entry))) (pairedAt (samePlace (pointsOf (now (points .entry)))) 0 (now (order .entry))) ⌝ }
+{
+    let n = order.len();
+    let mut i = 0;
+    while i + 1 < n {
+        if is_paired(points, order, i) {
+            return i;
+        }
+        i += 1;
+    }
+    n
+}
+
 // Drops places of equal points two by two, where they stand side by side. Gives how many are left at the start.
 fn drop_pairs(points: &[i32], order: &mut [u16]) -> usize
     ensures { λ r. ⌜ r ≡ length (standing (pointsOf (now (points .entry))) (now (order .entry))) ⌝ }
     ensures { λ r. ⌜ now (order .exit) ≡ atStart (standing (pointsOf (now (points .entry))) (now (order .entry))) (now (order .entry)) ⌝ }
 {
     let n = order.len();
-    let mut left = 0;
-    let mut i = 0;
+    let mut i = first_pair(points, order);
+    let mut left = i;
     while i < n {
         if is_paired(points, order, i) {
             i += 2;

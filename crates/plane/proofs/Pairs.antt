@@ -124,7 +124,7 @@ module _ {A : Type 0} (equal : A → A → Bool) (missing : A) (l : List A) (i :
 
 module _ {A : Type 0} (equal : A → A → Bool) (before : List A) where
   -- none is passed
-  drops-none : Drops equal before 0 0 before
+  pub drops-none : Drops equal before 0 0 before
   drops-none = record { left-within = omega arith; within = omega arith; same-length = refl; same-past = refl; left-so-far = refl }
 
   -- all are passed

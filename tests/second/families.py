@@ -255,7 +255,7 @@ def grid_groups():
 
 # ---- Accepted arrays, of which the edge is compared
 
-OUTLINES = 3_000
+OUTLINES = 13_000
 
 
 def outline_groups():

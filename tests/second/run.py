@@ -44,10 +44,10 @@ GENERATORS = (
     repeated_groups,
 )
 # How many groups of calls, each with an array of its own, there must be at least.
-FEWEST_GROUPS = {"forward": 43_000, "step": 3_475, "backward": 5_765}
-# On how many different arrays the edge must be compared at least: that is a field of the result of forward on answer 0.
+FEWEST_GROUPS = {"forward": 53_000, "step": 3_475, "backward": 5_765}
+# On how many different arrays without a repeated point the edge must be compared at least: that is a field of the result of forward on answer 0.
 FEWEST_EDGES = 20_000
-# And on how many of these a point must be listed more than once.
+# And on how many with one.
 FEWEST_REPEATED = 20_000
 # The driver is started anew after arrays with so many numbers.
 BATCH = 1_000_000
@@ -169,16 +169,15 @@ class Tally:
     def add_accepted(self, numbers):
         """Counts an array that forward accepts."""
         points = points_of(numbers)
-        self.edges.add(hash(numbers))
-        if len(set(points)) < len(points):
-            self.repeated.add(hash(numbers))
+        counted = self.repeated if len(set(points)) < len(points) else self.edges
+        counted.add(hash(numbers))
 
     def counts(self):
         """What was compared, in words."""
         for name, function in FUNCTIONS.items():
             answers = ", ".join(f"{NAMES[number]} {self.answers[name, str(number)]}" for number in function.answers)
             yield f"{name}: {self.groups[name]} arrays, {self.calls[name]} calls; {answers}"
-        yield f"edge: {len(self.edges)} different arrays, {len(self.repeated)} of them with a point listed more than once"
+        yield f"edge: {len(self.edges)} different arrays, and {len(self.repeated)} with a point listed more than once"
 
     def gaps(self):
         """What was to be compared and was not."""

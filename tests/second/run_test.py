@@ -88,7 +88,7 @@ class Comparison(unittest.TestCase):
         gaps = list(tally.gaps())
         self.assertIn("forward: no call is answered with LENGTH, MANY, WORK, RANGE, ROW, COLUMN, ROOM", gaps)
         self.assertIn(f"step: there are 0 arrays, and at least {run.FEWEST_GROUPS['step']} are wanted", gaps)
-        self.assertIn(f"edge: there are 2 arrays, and at least {run.FEWEST_EDGES} are wanted", gaps)
+        self.assertIn(f"edge: there are 1 arrays, and at least {run.FEWEST_EDGES} are wanted", gaps)
         self.assertIn(f"repeated: there are 1 arrays, and at least {run.FEWEST_REPEATED} are wanted", gaps)
         self.assertEqual((len(gaps), tally.faults), (7, []))
 

@@ -7,8 +7,8 @@ use lib.ListN.{length, take}
 use lib.Dec.{leb}
 use borrow.Author.Tests.{le-leb}
 use Rattle.plane.proofs.Bools.{cond-true}
+use Rattle.plane.proofs.AtPlace.{pasted-length, pasted-front}
 use Rattle.plane.proofs.Outcomes.{one-outcome}
-use Rattle.numerals.proofs.Putting.{pasted-length, pasted-front}
 use Rattle.drawing.specs.Picture.{pictureOf, Drawn}
 use Rattle.drawing.proofs.Longest.{picture-fits}
 

@@ -1,6 +1,6 @@
 -- Laws of numbers in strictly rising order: one is put first, equal ones are dropped two by two, a list is cut, and a list is determined by its
 -- numbers.
-use Prim.Native.Nat.{ℕ, zero, suc, _-_, _<_, _≤_}
+use Prim.Native.Nat.{ℕ, zero, suc, _<_, _≤_}
 use native.Mathlib.Omega.{arith}
 use mathlib.Core.Path.{_≡_, refl, sym, ap₂, _∙_}
 use mathlib.Core.Bool.{Bool, true, _&&_}
@@ -9,7 +9,8 @@ use lib.ListN.{length, getD, take}
 use lib.Dec.{eqb, ltb}
 use borrow.Author.Tests.{ltb-true, lt-ltb, le-ltb, eqb-true, eq-eqb, ne-eqb}
 use Rattle.plane.specs.Lists.{odd}
-use Rattle.plane.specs.Sorted.{sorted, offPairs}
+use Rattle.plane.specs.Sorted.{sorted}
+use Rattle.plane.specs.Swaps.{offPairs}
 use Rattle.plane.proofs.Bools.{clash, and-parts, and-make, xor-false, false-xor}
 use Rattle.plane.proofs.Parity.{odd-none-of, odd-cons, odd-rest, odd-none, odd-find}
 use Rattle.plane.proofs.Places.{in-at}

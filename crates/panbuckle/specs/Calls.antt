@@ -16,8 +16,7 @@ use Rattle.rule.specs.StepCall.{StepDone}
 
 -- ---- Calls of step, one after another
 
--- a working array into whose start the points that remain of an array are copied, in the order in which they are first listed, with zeros up to two
--- numbers for each point given
+-- a working array with the points that remain of an array copied to its start, as they are first listed, and zeros up to two numbers per point given
 abbrev pub copied : (a work : List ℤ) → List ℤ
 copied a work = workOf (length a / 2) (pointsRemaining a) work
 

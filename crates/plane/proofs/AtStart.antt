@@ -2,9 +2,9 @@
 use Prim.Native.Nat.{ℕ, _+_, _-_, _*_, _≤_, _<_}
 use native.Mathlib.Omega.{arith}
 use native.Mathlib.Numerals.{add-one}
-use mathlib.Core.Path.{_≡_, sym, ap}
+use mathlib.Core.Path.{_≡_, sym, ap, subst, _∙_}
 use mathlib.Core.List.{List, [], _∷_, _++_, append-nil, append-assoc}
-use lib.ListN.{length, take, drop, set, length-append, length-take, length-drop, take-append-drop}
+use lib.ListN.{length, take, drop, set, replicate, length-append, length-take, length-drop, length-replicate, take-append-drop, replicate-append-replicate}
 use lib.Seq.{take-length, drop-length, take-append-seam, drop-append-seam, drop-append-add, take-at, drop-at, drop-drop, sets, sets-eq}
 use lib.IntN.{ℤ}
 use Rattle.plane.specs.declared.Point.{Point}
@@ -42,6 +42,13 @@ module _ {A : Type 0} where
       let rest : List A = drop (length items) before in
       let n : length (items ++ rest) - i ≡ length rest = omega (arith, length-append items rest) in
       rw (n, take-at items rest i e, drop-at items rest i e, take-length rest, drop-length rest, append-nil (more ++ drop (length more) rest), drop-drop (length more) (length items) before, length-append items more, append-assoc)
+
+  -- one element after so many of the same is one more of them
+  pub start-filled : (before : List A) (i : ℕ) (a : A) → i < length before → set (atStart (replicate i a) before) i a ≡ atStart (replicate (i + 1) a) before
+  start-filled before i a h =
+      let filled : List A = replicate i a in
+      let e : length filled ≡ i = length-replicate i a in
+      subst (λ (j : ℕ). set (atStart filled before) j a ≡ atStart (filled ++ (a ∷ [])) before) e (start-more filled (a ∷ []) before (omega arith)) ∙ ap (λ (l : List A). atStart l before) (replicate-append-replicate i 1 a)
 
 -- a point stored after points is one more of them
 pub start-point : (ps : List Point) (p : Point) (before : List ℤ) (i : ℕ) → length ps ≡ i → 2 * i + 1 < length before → set (set (atStart (flatPoints ps) before) (2 * i) (p .x)) (2 * i + 1) (p .y) ≡ atStart (flatPoints (ps ++ (p ∷ []))) before

@@ -20,6 +20,7 @@ use Rattle.plane.proofs.Bools.{clash, by, and-parts, and-make}
 use Rattle.plane.proofs.Sums.{below-cong, below-swap}
 use Rattle.plane.proofs.Maps.{map-all}
 use Rattle.plane.proofs.Parity.{odd-cong, odd-xor, odd-find, classes-even}
+use Rattle.plane.proofs.Grid.{CellInRange}
 use Rattle.plane.proofs.Sorted.{IsOrder, sorted-sum, sorted-in, sorted-length, sorted-twice}
 use Rattle.plane.proofs.Lines.{pairs-most, line-odd, lines-count, linedBefore, lines-ordered, lines-in-order}
 
@@ -90,7 +91,7 @@ marks-edge ps qs h g e = edge-counts ps h ∙ ap unitSides (fun-ext (λ a. fun-e
 -- ---- No marked cell and no unit side lies out of the range
 
 -- where every line is even, an even number of points is on the lines that pass a test
-even-lines : (across : Point → ℤ) (ps : List Point) → ((k : ℤ) → odd (λ p. eqZ (across p) k) ps ≡ false) → (t : ℤ → Bool) → odd (λ p. t (across p)) ps ≡ false
+pub even-lines : (across : Point → ℤ) (ps : List Point) → ((k : ℤ) → odd (λ p. eqZ (across p) k) ps ≡ false) → (t : ℤ → Bool) → odd (λ p. t (across p)) ps ≡ false
 even-lines across ps even t =
     odd-cong _ (λ p. t (across p) && true) ps (λ p m. sym (and-true (t (across p))))
     ∙ classes-even across eqZ eqZ-is eqZ-refl (λ p. true) t ps (λ q m e. odd-cong _ (λ p. eqZ (across p) (across q)) ps (λ p n. and-true (eqZ (across p) (across q))) ∙ even (across q))
@@ -123,7 +124,7 @@ module _ (ps : List Point) (h : Balanced ps) where
   marks-above a b n = odd-cong _ (λ p. leZ (p .x) a) ps (λ p m. let u = range-up (p .y) (coordinates p m .1) in let l : leZ (p .y) b ≡ true = omega (order, pos-up 1_000_000_000) in rw l (and-true (leZ (p .x) a))) ∙ even-lines xOf ps (h .columns) (λ x. leZ x a)
 
   -- a marked cell is one of the range
-  pub marked-inside : (a b : ℤ) → marks ps a b ≡ true → ((leZ lowEnd a ≡ true) × (ltZ a highEnd ≡ true)) × ((leZ lowEnd b ≡ true) × (ltZ b highEnd ≡ true))
+  pub marked-inside : (a b : ℤ) → marks ps a b ≡ true → CellInRange a b
   unfolding marks under
   marked-inside a b e =
       let r = odd-find (under a b) ps e in

@@ -1,7 +1,7 @@
 -- Counting cells: rectangles that together hold just the cells that pass a test, each once, have areas that add up to
 -- the number of those cells. All is proved for a square of n by n cells at (z, z), and the range is one such square.
 use mathlib.Core.Path.{_≡_, refl, sym, ap, ap₂, _∙_}
-use Prim.Native.Nat.{ℕ, zero, suc, _+_, _-_, _*_, _≤_, min}
+use Prim.Native.Nat.{ℕ, zero, suc, _+_, _-_, _*_, _≤_, _<_, min}
 use native.Mathlib.Omega.{arith}
 use mathlib.Core.Bool.{Bool, true, false, _&&_}
 use mathlib.Core.List.{List, List·Memᴰ as In}
@@ -9,7 +9,7 @@ use lib.IntN.{ℤ, pos, natAbs, _+ℤ_, _-ℤ_}
 use lib.Signed.{leZ, ltZ}
 use Rattle.plane.specs.declared.Rect.{Rect}
 use Rattle.plane.specs.Lists.{bit, count, sum, sumBelow}
-use Rattle.plane.specs.Words.{lowEnd, highEnd, rangeSize, inRange, right, top, rectInRange, flat, areaOf, holds, cellsFrom, cells}
+use Rattle.plane.specs.Words.{lowEnd, highEnd, rangeSize, inRange, right, top, rectInRange, flat, areaOf, holds, cellsFrom, cells, mostCells}
 use Rattle.plane.proofs.Order.{order, up, dn, add-up, add-more, side-is, distance-up, pos-up}
 use Rattle.plane.proofs.Bools.{and-parts, and-four, or-parts, bit-most}
 use Rattle.plane.proofs.Sums.{sum-cong, count-sum, below-cong, below-most, below-sum, below-pairs}
@@ -19,6 +19,10 @@ use Rattle.plane.proofs.Sums.{sum-cong, count-sum, below-cong, below-mo
 -- how far x is above z, where it is
 abbrev gap : ℤ → ℤ → ℕ
 gap z x = (up x + dn z) - (up z + dn x)
+
+-- one of them is so many above z
+pub placed : (z a : ℤ) (n : ℕ) → leZ z a ≡ true → ltZ a (z +ℤ pos n) ≡ true → (i : ℕ) × (i < n) × (a ≡ z +ℤ pos i)
+placed z a n l h = (gap z a, omega (order, add-up z (pos n), pos-up n), omega (order, add-up z (pos (gap z a)), pos-up (gap z a)))
 
 -- those from x up to y are those below y, less those below x
 between : (z x y : ℤ) (n : ℕ) → leZ z x ≡ true → leZ x y ≡ true → sumBelow n (λ i. bit (leZ x (z +ℤ pos i) && ltZ (z +ℤ pos i) y)) + min n (gap z x) ≡ min n (gap z y)
@@ -74,6 +78,10 @@ square-most z n t = below-most n n _ (λ i. line (z +ℤ pos i))
 
 -- ---- Cells of the range
 
+-- a cell is one of the range
+abbrev pub CellInRange : (a b : ℤ) → Type 0
+CellInRange a b = ((leZ lowEnd a ≡ true) × (ltZ a highEnd ≡ true)) × ((leZ lowEnd b ≡ true) × (ltZ b highEnd ≡ true))
+
 -- a number in range is between its ends
 range-ends : (z : ℤ) → inRange z ≡ true → (leZ lowEnd z ≡ true) × (leZ z highEnd ≡ true)
 unfolding inRange
@@ -97,6 +105,6 @@ unfolding cells
 cells-areas rs t f e h = sum-cong areaOf _ rs (λ r m. sym (cells-hold r (f r m) (e r m))) ∙ square-sum lowEnd rangeSize rs t h
 
 -- no test passes more cells than there are in the range
-pub cells-most : (t : ℤ → ℤ → Bool) → cells t ≤ 4_000_000_000_000_000_000
+pub cells-most : (t : ℤ → ℤ → Bool) → cells t ≤ mostCells
 unfolding cells
 cells-most t = square-most lowEnd rangeSize t

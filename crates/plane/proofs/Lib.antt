@@ -11,6 +11,7 @@ pub mod Cells
 pub mod Grid
 pub mod Arrays
 pub mod AtStart
+pub mod AtPlace
 pub mod Places
 pub mod Keys
 pub mod Sorted

@@ -62,7 +62,7 @@ module _ (z : ℤ) (n : ℕ) where
   oddPlaces zs = sumBelow n (λ i. bit (odd (λ x. leZ x (z +ℤ pos i)) zs))
 
   -- by rising, an even number of numbers in pairs says how many
-  pairs-count : (zs : List ℤ) → sortedBy ltZ zs ≡ zs → ((x : ℤ) → In x zs → Among x) → odd (λ x. true) zs ≡ false → oddPlaces zs ≡ pairs zs
+  pub pairs-count : (zs : List ℤ) → sortedBy ltZ zs ≡ zs → ((x : ℤ) → In x zs → Among x) → odd (λ x. true) zs ≡ false → oddPlaces zs ≡ pairs zs
   unfolding pairs
   pairs-count [] s in-n e = below-zero n _ (λ i. ap bit (odd-none-of _))
   pairs-count (a ∷ []) s in-n e = absurd (not-even a e)

@@ -11,8 +11,8 @@ use lib.Seq.{drop-cons, drop-length, drop-drop, drop-set-lt, getD-drop, set-getD
 use lib.Dec.{ltb}
 use borrow.Author.Tests.{ltb-true, ltb-false}
 use Rattle.plane.specs.Lists.{odd, atStart}
-use Rattle.plane.specs.Sorted.{sortedBy, offPairs}
-use Rattle.plane.specs.Swaps.{pairedAt}
+use Rattle.plane.specs.Sorted.{sortedBy}
+use Rattle.plane.specs.Swaps.{pairedAt, offPairs}
 use Rattle.plane.proofs.Bools.{clash, by, by-no, and-parts, cond-case, xor-back}
 use Rattle.plane.proofs.Parity.{odd-cons}
 use Rattle.plane.proofs.Sorted.{IsOrder, sorted-first}

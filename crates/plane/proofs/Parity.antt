@@ -25,11 +25,21 @@ module _ {A : Type 0} where
   unfolding odd
   odd-cons f a l = refl
 
+  -- with one more element, if it is kept
+  pub odd-keep : (f : A → Bool) (t : Bool) (a : A) (l : List A) → odd f (keep t a l) ≡ xor (t && f a) (odd f l)
+  unfolding odd
+  odd-keep f true a l = refl
+  odd-keep f false a l = sym (false-xor (odd f l))
+
   -- a parity is that of a sum
   pub odd-sum : (f : A → Bool) (l : List A) → odd f l ≡ isOdd (sum (λ a. bit (f a)) l)
   unfolding sum odd isOdd
   odd-sum f [] = refl
   odd-sum f (a ∷ l) = rw (odd-sum f l) (sym (isOdd-bit (f a) _))
+
+  -- and that of how many pass
+  pub odd-count : (f : A → Bool) (l : List A) → odd f l ≡ isOdd (count f l)
+  odd-count f l = odd-sum f l ∙ ap isOdd (sym (count-sum f l))
 
   -- tests that are equal on the elements
   pub odd-cong : (f g : A → Bool) (l : List A) → ((a : A) → In a l → f a ≡ g a) → odd f l ≡ odd g l
@@ -45,7 +55,7 @@ module _ {A : Type 0} where
   -- an odd count is of something
   pub odd-find : (f : A → Bool) (l : List A) → odd f l ≡ true → (a : A) × In a l × (f a ≡ true)
   unfolding isOdd
-  odd-find f l e = any-find f l (by (any f l) (λ n. clash e (odd-sum f l ∙ ap isOdd (sym (count-sum f l) ∙ count-none f l n))))
+  odd-find f l e = any-find f l (by (any f l) (λ n. clash e (odd-count f l ∙ ap isOdd (count-none f l n))))
 
   -- an odd number is at least 1
   pub odd-most : (f : A → Bool) (l : List A) → bit (odd f l) ≤ sum (λ a. bit (f a)) l
@@ -88,11 +98,7 @@ module _ {A : Type 0} where
   pub odd-only : (f g : A → Bool) (l : List A) → odd f (only g l) ≡ odd (λ a. g a && f a) l
   unfolding odd only
   odd-only f g [] = refl
-  odd-only f g (a ∷ l) = go (odd-only f g l) (g a)
-    where
-      go : odd f (only g l) ≡ odd (λ b. g b && f b) l → (t : Bool) → odd f (keep t a (only g l)) ≡ xor (t && f a) (odd (λ b. g b && f b) l)
-      go ih true = rw ih
-      go ih false = ih ∙ sym (false-xor _)
+  odd-only f g (a ∷ l) = odd-keep f (g a) a (only g l) ∙ ap (xor (g a && f a)) (odd-only f g l)
 
   -- a test that just one element passes
   pub odd-one : (f : A → Bool) {l : List A} {a : A} → In a l → f a ≡ true → count f l ≤ 1 → odd f l ≡ true

@@ -14,7 +14,7 @@ use lib.IntN.{ℤ}
 use borrow.Author.Tests.{not-false}
 use Rattle.plane.specs.declared.Point.{Point}
 use Rattle.plane.specs.Lists.{bit, any, count, odd}
-use Rattle.plane.specs.Words.{origin, same, onRow, inColumn}
+use Rattle.plane.specs.Words.{origin, inRange, pointAt, pointInRange, same, onRow, inColumn}
 use Rattle.plane.proofs.Order.{eqZ-is}
 use Rattle.plane.proofs.Bools.{clash, by-no, or-parts}
 use Rattle.plane.proofs.Sums.{sum-parts, any-find, count-sum, count-in, count-find}
@@ -90,6 +90,15 @@ module _ {A : Type 0} where
   stretch-start l (suc i) zero = let e : 0 - suc i ≡ 0 = omega arith in rw e
   stretch-start [] (suc i) (suc m) = sym (take-nil (suc m - suc i))
   stretch-start (a ∷ l) (suc i) (suc m) = let e : suc m - suc i ≡ m - i = omega arith in rw e (stretch-start l i m)
+
+-- ---- Points in range
+
+-- where all points are in range, so is the one at every place: where there is none it is (0, 0)
+pub at-range : (ps : List Point) → ((q : Point) → In q ps → pointInRange q ≡ true) → (i : ℕ) → pointInRange (pointAt ps i) ≡ true
+unfolding pointInRange inRange
+at-range [] h i = refl
+at-range (p ∷ ps) h zero = h p (head refl)
+at-range (p ∷ ps) h (suc i) = at-range ps (λ q m. h q (tail m)) i
 
 -- ---- Rows and columns
 

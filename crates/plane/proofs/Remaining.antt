@@ -10,8 +10,8 @@ use lib.IntN.{ℤ}
 use Rattle.plane.specs.declared.Point.{Point}
 use Rattle.plane.specs.Lists.{bit, any, count, odd, keep, only}
 use Rattle.plane.specs.Words.{same, onRow, inColumn, rising, inOrder, marks}
-use Rattle.plane.specs.Sorted.{sortedBy, offPairs}
-use Rattle.plane.specs.Swaps.{SameItems}
+use Rattle.plane.specs.Sorted.{sortedBy}
+use Rattle.plane.specs.Swaps.{SameItems, offPairs}
 use Rattle.plane.specs.Edge.{xOf, yOf, edgeLength}
 use Rattle.plane.specs.Remaining.{Balanced, firsts, remaining, firstAt, InTurn, none, next}
 use Rattle.plane.proofs.Bools.{clash, by-no, iff, cond-true, cond-false, and-parts, and-make, bit-most}

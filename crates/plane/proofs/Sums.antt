@@ -285,6 +285,16 @@ below-le (suc n) u v h = omega (arith, h n, below-le n u v h)
 pub below-zero : (n : ℕ) (w : ℕ → ℕ) → ((i : ℕ) → w i ≡ 0) → sumBelow n w ≡ 0
 below-zero n w h = omega (arith, below-most n 0 w (λ i. omega (arith, h i)))
 
+-- a sum that is not 0 has a number that weighs something
+pub below-find : (n : ℕ) (w : ℕ → ℕ) → 0 < sumBelow n w → (i : ℕ) × (i < n) × (0 < w i)
+unfolding sumBelow
+below-find zero w h = absurd (omega arith)
+below-find (suc n) w h = go (ℕ-discrete (w n) 0) (below-find n w)
+  where
+    go : Dec (w n ≡ 0) → (0 < sumBelow n w → (i : ℕ) × (i < n) × (0 < w i)) → (i : ℕ) × (i < suc n) × (0 < w i)
+    go (yes e) ih = let r = ih (omega arith) in (r .0, omega (arith, r .1), r .2)
+    go (no d) ih = (n, omega arith, omega arith)
+
 -- two weights added
 pub below-plus : (n : ℕ) (u v : ℕ → ℕ) → sumBelow n (λ i. u i + v i) ≡ sumBelow n u + sumBelow n v
 unfolding sumBelow

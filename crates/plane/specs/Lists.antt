@@ -1,9 +1,10 @@
--- Words on lists and sums that document 01 uses without saying so: any, how many, an odd number, the sum; and on lent arrays: at the start.
+-- Words on lists and sums that document 01 uses without saying so: any, how many, an odd number, the sum; and on lent arrays: at the start, and at a place.
 use Prim.Native.Nat.{ℕ, zero, suc, _+_}
 use mathlib.Core.Path.{_≡_}
 use mathlib.Core.Bool.{Bool, true, false, cond, _||_, xor}
 use mathlib.Core.List.{List, [], _∷_, _++_}
 use lib.ListN.{length, take, drop}
+use lib.Dec.{leb}
 
 -- 1 for true, 0 for false
 abbrev pub bit : Bool → ℕ
@@ -44,6 +45,18 @@ module _ {A : Type 0} where
   -- an array afterwards: these at its start, and otherwise unchanged
   abbrev pub atStart : (items before : List A) → List A
   atStart items before = items ++ drop (length items) before
+
+  -- an array has room for items from a place on
+  abbrev pub hasRoom : (before : List A) (at : ℕ) (items : List A) → Bool
+  hasRoom before at items = leb (at + length items) (length before)
+
+  -- items put over an array's from a place on
+  abbrev pub pasted : (before : List A) (at : ℕ) (items : List A) → List A
+  pasted before at items = take at before ++ atStart items (drop at before)
+
+  -- an array with items from a place on; without room it stays as it is
+  unfoldable pub putAt : (before : List A) (at : ℕ) (items : List A) → List A
+  putAt before at items = cond (hasRoom before at items) (pasted before at items) before
 
   -- afterwards an array begins with these, and past them it is as it was
   pub record Starts (items before after : List A) : Type 0 where

@@ -189,3 +189,7 @@ cellsFrom z n t = sumBelow n (λ i. sumBelow n (λ j. bit (t (z +ℤ pos i) (z +
 -- how many cells of the range pass a test
 unfoldable pub cells : (ℤ → ℤ → Bool) → ℕ
 cells t = cellsFrom lowEnd rangeSize t
+
+-- 4·10^18, how many cells the range has
+abbrev pub mostCells : ℕ
+mostCells = 4_000_000_000_000_000_000

@@ -3,6 +3,7 @@ ghost use Prim.Native.Nat.{_+_, _*_, _<_};
 ghost use mathlib.Core.Path.{_≡_};
 ghost use mathlib.Core.List.{[]};
 ghost use lib.ListN.{length};
+ghost use lib.IntN.{natAbs, _-ℤ_};
 ghost use Rattle.plane.specs.Words.{origin, same, before, pointsOf, pointAt, rectSize, rectsOf, rectAt};
 ghost use Rattle.plane.specs.Keys.{raised, lowered, rowStep, keyOf, pointOf};
 
@@ -62,6 +63,19 @@ pub fn raise(z: i32) -> u64
     ensures { λ r. ⌜ r < rowStep ⌝ }
 {
     (((z as i64) + 2_147_483_648) as u32) as u64
+}
+
+// How far apart two numbers are.
+pub fn apart(a: i32, b: i32) -> usize
+    ensures { λ r. ⌜ r ≡ natAbs (b -ℤ a) ⌝ }
+    ensures { λ r. ⌜ r < rowStep ⌝ }
+{
+    let l = raise(a);
+    let r = raise(b);
+    if l < r {
+        return (r - l) as usize;
+    }
+    (l - r) as usize
 }
 
 // The number that is so far above the lowest.

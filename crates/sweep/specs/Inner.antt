@@ -12,7 +12,7 @@ use Rattle.plane.specs.declared.Point.{Point}
 use Rattle.plane.specs.declared.Rect.{Rect}
 use Rattle.plane.specs.Lists.{bit, sum, sumBelow, atStart}
 use Rattle.plane.specs.Words.{eqZ, same, pointsOf, rectSize, foursOf, flatRects, rising, pointAt, mostPoints}
-use Rattle.plane.specs.Sorted.{offPairs}
+use Rattle.plane.specs.Swaps.{offPairs}
 use Rattle.ordering.specs.Orders.{rowOrder, pointsAt}
 use Rattle.entry.specs.Checks.{accepted, verdict}
 use Rattle.rule.specs.declared.ForwardAnswer.{ForwardAnswer}

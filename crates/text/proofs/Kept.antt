@@ -8,13 +8,14 @@ use lib.ListN.{length, take}
 use Rattle.plane.specs.Remaining.{Balanced}
 use Rattle.plane.proofs.Outcomes.{one-outcome}
 use Rattle.plane.proofs.Arrays.{points-flat}
+use Rattle.plane.proofs.AtPlace.{pasted-length, pasted-front}
 use Rattle.entry.specs.Checks.{verdict}
 use Rattle.entry.specs.Entry.{numberIn, Answers}
 use Rattle.entry.proofs.Entry.{answers, accepts}
 use Rattle.entry.proofs.Verdicts.{verdict-case, refused-exactly, refused-number}
 use Rattle.rule.specs.Rows.{balanceChecks}
 use Rattle.rule.specs.ForwardCall.{inputChecks, forwardChecks, forwardSums, forwardList}
-use Rattle.numerals.proofs.Putting.{put-made, pasted-length, pasted-front}
+use Rattle.numerals.proofs.Putting.{put-made}
 use Rattle.reading.specs.Reading.{pointsRead, textChecks}
 use Rattle.text.specs.declared.Report.{Report}
 use Rattle.text.specs.Program.{programChecks, listLines, refusalLine, programPrints, programReport, ProgramDone, numbersRead}

@@ -6,6 +6,7 @@ use mathlib.Core.List.{List}
 use lib.ListN.{length}
 use lib.IntN.{ℤ}
 use Rattle.plane.specs.declared.Point.{Point}
+use Rattle.plane.specs.Lists.{putAt}
 use Rattle.plane.specs.Words.{origin}
 use Rattle.plane.proofs.Arrays.{points-flat}
 use Rattle.entry.specs.Checks.{accepted, refused, verdict}
@@ -14,7 +15,6 @@ use Rattle.rule.specs.declared.ForwardAnswer.{ForwardAnswer}
 use Rattle.rule.specs.ForwardCall.{forwardSays, forwardAnswer, ForwardDone, forwardList, forwardSums}
 use Rattle.rule.proofs.Demands.{forward-verdict}
 use Rattle.panbuckle.proofs.Kept.{answers-0, done-list, done-told}
-use Rattle.numerals.specs.Bytes.{putAt}
 use Rattle.reading.specs.Reading.{pointsRead, textChecks}
 use Rattle.text.specs.declared.Report.{Report}
 use Rattle.text.specs.Program.{mostWork, mostList, listLines, refusalLine, programPrints, programReport, ProgramDone, numbersRead, reportSays, printed}

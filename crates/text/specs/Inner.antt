@@ -4,11 +4,11 @@ use mathlib.Core.Path.{_≡_}
 use mathlib.Core.List.{List, _++_}
 use lib.ListN.{length}
 use lib.IntN.{ℤ}
+use Rattle.plane.specs.Lists.{putAt}
 use Rattle.plane.specs.Words.{pointsOf}
 use Rattle.entry.specs.Checks.{Verdict, verdict}
 use Rattle.rule.specs.declared.ForwardAnswer.{ForwardAnswer}
 use Rattle.rule.specs.ForwardCall.{forwardChecks, forwardList, sumsTold, forwardSums, listOf}
-use Rattle.numerals.specs.Bytes.{putAt}
 use Rattle.numerals.specs.Numerals.{decimal, signed}
 use Rattle.text.specs.declared.Report.{Report}
 use Rattle.text.specs.Program.{mostWork, mostList, sumsLine, rectLines, printed, reportSays}

@@ -8,11 +8,12 @@ use lib.IntN.{ℤ}
 use lib.Dec.{eqb}
 use Rattle.plane.specs.declared.Point.{Point}
 use Rattle.plane.specs.declared.Rect.{Rect}
+use Rattle.plane.specs.Lists.{putAt}
 use Rattle.plane.specs.Words.{origin, flatPoints, pointAt, rectSize, mostPoints}
 use Rattle.entry.specs.Checks.{Check, Verdict, accepted, refused, verdict}
 use Rattle.entry.specs.Entry.{numberIn, placeIn}
 use Rattle.rule.specs.ForwardCall.{forwardChecks, Sums, forwardSums, forwardList}
-use Rattle.numerals.specs.Bytes.{ascii, putAt}
+use Rattle.numerals.specs.Bytes.{ascii}
 use Rattle.numerals.specs.Numerals.{decimal, signed}
 use Rattle.reading.specs.Reading.{pointsRead, textChecks}
 use Rattle.text.specs.declared.Report.{Report}

@@ -2,9 +2,10 @@
 ghost use Prim.Native.Nat.{_+_, _*_, _≤_};
 ghost use mathlib.Core.Path.{_≡_};
 ghost use lib.ListN.{length, take};
+ghost use Rattle.plane.specs.Lists.{putAt};
 ghost use Rattle.plane.specs.Words.{origin, pointsOf, rectsOf, rectSize};
 ghost use Rattle.rule.specs.ForwardCall.{sumsTold};
-ghost use Rattle.numerals.specs.Bytes.{putAt, Put};
+ghost use Rattle.numerals.specs.Bytes.{Put};
 ghost use Rattle.numerals.specs.Inner.{Wrote};
 ghost use Rattle.text.specs.Program.{sumsLine, rectLine, rectLines, refusalLine, namesOne, offender, ProgramDone, printed};
 ghost use Rattle.text.specs.Sentences.{manySays, namesPoint, pointFault, roomSays, textSays, sentence};

@@ -8,7 +8,8 @@ use lib.ListN.{length, take, length-take}
 use lib.Dec.{eqb}
 use borrow.Author.Needs.{needs}
 use Rattle.plane.specs.Lists.{atStart}
-use Rattle.plane.specs.Sorted.{sorted, offPairs}
+use Rattle.plane.specs.Sorted.{sorted}
+use Rattle.plane.specs.Swaps.{offPairs}
 use Rattle.plane.proofs.AtStart.{start-taken}
 use Rattle.plane.proofs.Sorted.{least-first, sorted-length}
 use Rattle.plane.proofs.Pairs.{off-length}

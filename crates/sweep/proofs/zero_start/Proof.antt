@@ -1,13 +1,12 @@
 -- `sweep::zero_start` meets its contract. The invariant: the first i numbers are 0, and the others as they were.
-use Prim.Native.Nat.{ℕ, _+_, _-_, _<_, _≤_}
+use Prim.Native.Nat.{ℕ, _-_, _≤_}
 use native.Mathlib.Omega.{arith}
-use mathlib.Core.Path.{_≡_, ap, subst, _∙_}
-use mathlib.Core.List.{List, [], _∷_, _++_}
-use lib.ListN.{length, set, replicate, length-replicate, replicate-append-replicate}
+use mathlib.Core.Path.{_≡_, ap, _∙_}
+use mathlib.Core.List.{List}
+use lib.ListN.{length, set}
 use lib.IntN.{ℤ, pos}
 use borrow.Author.Needs.{needs}
-use Rattle.plane.specs.Lists.{atStart}
-use Rattle.plane.proofs.AtStart.{start-more}
+use Rattle.plane.proofs.AtStart.{start-filled}
 use Rattle.sweep.specs.Inner.{zeroed}
 use Rattle.sweep.proofs.zero_start.Statement.{statement}
 use Rattle.sweep.proofs.zero_start.Tie as tie
@@ -18,18 +17,11 @@ Inv-loop work₀ n i₀ work i = (i ≤ n) × (work ≡ zeroed i work₀) × (le
 abbrev μ-loop : tie.MeasureT-loop
 μ-loop work₀ n i₀ work i = n - i
 
--- one more number set to 0
-zeroed-next : (a : List ℤ) (i : ℕ) → i < length a → set (zeroed i a) i (pos 0) ≡ zeroed (i + 1) a
-zeroed-next a i h =
-    let zeros : List ℤ = replicate i (pos 0) in
-    let e : length zeros ≡ i = length-replicate i (pos 0) in
-    subst (λ (j : ℕ). set (zeroed i a) j (pos 0) ≡ atStart (zeros ++ (pos 0 ∷ [])) a) e (start-more zeros (pos 0 ∷ []) a (omega arith)) ∙ ap (λ (l : List ℤ). atStart l a) (replicate-append-replicate i 1 (pos 0))
-
 loop-again : tie.Need-loop-again Inv-loop μ-loop
 loop-again c =
     let l = c .before .loop in
     let a = c .before .before .args .work .now in
-    (omega arith, ap (λ (b : List ℤ). set b (l .i) (pos 0)) (l .inv .1) ∙ zeroed-next a (l .i) (omega arith), search needs)
+    (omega arith, ap (λ (b : List ℤ). set b (l .i) (pos 0)) (l .inv .1) ∙ start-filled a (l .i) (pos 0) (omega arith), search needs)
 
 returns : tie.Need-returns Inv-loop μ-loop
 returns c =

@@ -121,6 +121,15 @@ pub verdict-none : verdict [] ≡ accepted
 unfolding verdict
 verdict-none = refl
 
+-- after a check, what later ones say matters only where nothing of it offends
+pub verdict-after : (c : Check) (checks others : List Check) → (Clear c → verdict checks ≡ verdict others) → verdict (c ∷ checks) ≡ verdict (c ∷ others)
+unfolding verdict
+verdict-after c checks others h = go (check-says c)
+  where
+    go : {v : Verdict} → Says c v → orLater v (verdict checks) ≡ orLater v (verdict others)
+    go (gives g) = refl
+    go (passes clear) = h clear
+
 -- a refusal that depends on a test, or else what comes later
 cond-later : (b : Bool) (k p : ℕ) (rest : Verdict) → orLater (cond b (refused k p) accepted) rest ≡ cond b (refused k p) rest
 cond-later true k p rest = refl

@@ -30,6 +30,18 @@ pub const DRAINED: u32 = 10;
 
 pub const TEXT: u32 = 11;
 
+pub const TRUNCATED: u32 = 12;
+
+pub const RECORD: u32 = 13;
+
+pub const OPEN: u32 = 14;
+
+pub const SLANTED: u32 = 15;
+
+pub const ABSENT: u32 = 16;
+
+pub const OVERLAP: u32 = 17;
+
 // ---- The answer of one that counts
 
 // The count is of points, of rectangles, of lines or of bytes. On a refusal it is 0.

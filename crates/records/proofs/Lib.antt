@@ -1,0 +1,5 @@
+pub mod Tables
+pub mod Rows
+pub mod Forms
+pub mod Heads
+pub mod Treatments

@@ -1,0 +1,4 @@
+pub mod Opened
+pub mod Strips
+pub mod Walk
+pub mod Kept

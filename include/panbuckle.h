@@ -2,8 +2,8 @@
  *
  * Link with libpanbuckle_c.a, which `rt staticlib panbuckle_c` proves and writes to target/staticlib. It is for x86-64 and the System V
  * calling convention, and needs nothing but memset. The functions keep no state, allocate nothing, call nothing back and end for every
- * input, so that any number of threads may call them at once, each with arrays of its own. They use at most 13 KiB of stack forward and in
- * a step, and 14.5 KiB backward, which is measured and not proved.
+ * input, so that any number of threads may call them at once, each with arrays of its own. They use at most 13 KiB of stack forward, in a step
+ * and for a stream file, and 14.5 KiB backward, which is measured and not proved.
  *
  * What each function returns and writes is proved, for every content and length of the arrays: no caller has to check anything first.
  * What C cannot say and the caller owes is this, for each pointer: it points to as many numbers as its length says (it may be NULL where
@@ -59,33 +59,41 @@ uint32_t panbuckle_version_3(void);
 PANBUCKLE_KEPT static uint32_t (*const panbuckle_linked)(void) = panbuckle_version_3;
 
 /* The answers. Each is given exactly when its words hold, and those of no earlier check of the function do. With PANBUCKLE_DONE the list,
- * the points or the rectangle is written. On any other answer nothing is written to them, and the place says where: the first point or
- * rectangle at fault; with PANBUCKLE_ROOM how many rectangles or points there would be; otherwise 0. */
+ * the points, the rectangle or the corners are written. On any other answer nothing is written to them, and the place says where: the first point,
+ * rectangle or corner at fault, or the byte where the record at fault begins; with PANBUCKLE_ROOM how many rectangles, points or corners there
+ * would be; otherwise 0. */
 enum {
-    PANBUCKLE_DONE = 0,     /* none below */
-    PANBUCKLE_LENGTH = 1,   /* array length not a multiple of 2 (points), of 4 (rectangles read backward) */
-    PANBUCKLE_MANY = 2,     /* over 4,096 points forward or in a step, over 16,384 rectangles backward, program input too long */
-    PANBUCKLE_WORK = 3,     /* working array shorter than two numbers per point */
-    PANBUCKLE_RANGE = 4,    /* a coordinate, or a rectangle's far side, out of range (-1,000,000,000 to 1,000,000,000) */
-    PANBUCKLE_REPEATED = 5, /* a point equal to an earlier one */
-    PANBUCKLE_ROW = 6,      /* a row with an odd count */
-    PANBUCKLE_COLUMN = 7,   /* a column with an odd count */
-    PANBUCKLE_ROOM = 8,     /* the result needs more room */
-    PANBUCKLE_FLAT = 9,     /* W or H below 1 */
-    PANBUCKLE_DRAINED = 10, /* a step asked with no points left */
-    PANBUCKLE_TEXT = 11     /* the program's input has a bad line */
+    PANBUCKLE_DONE = 0,       /* none below */
+    PANBUCKLE_LENGTH = 1,     /* array length not a multiple of 2 (points), of 4 (rectangles read backward) */
+    PANBUCKLE_MANY = 2,       /* over 4,096 points forward or in a step, or corners read, over 16,384 rectangles backward, program input too long */
+    PANBUCKLE_WORK = 3,       /* working array shorter than two numbers per point */
+    PANBUCKLE_RANGE = 4,      /* a coordinate, or a rectangle's far side, out of range (-1,000,000,000 to 1,000,000,000) */
+    PANBUCKLE_REPEATED = 5,   /* a point equal to an earlier one */
+    PANBUCKLE_ROW = 6,        /* a row with an odd count */
+    PANBUCKLE_COLUMN = 7,     /* a column with an odd count */
+    PANBUCKLE_ROOM = 8,       /* the result needs more room */
+    PANBUCKLE_FLAT = 9,       /* W or H below 1 */
+    PANBUCKLE_DRAINED = 10,   /* a step asked with no points left */
+    PANBUCKLE_TEXT = 11,      /* the program's input has a bad line */
+    PANBUCKLE_TRUNCATED = 12, /* the bytes end before ENDLIB, or inside a record or its four-byte head */
+    PANBUCKLE_RECORD = 13,    /* a record is malformed, unknown or out of order; in the structure that is read, a path or reference */
+    PANBUCKLE_OPEN = 14,      /* a boundary's list is empty or not closed */
+    PANBUCKLE_SLANTED = 15,   /* a boundary has an edge that is neither horizontal nor vertical */
+    PANBUCKLE_ABSENT = 16,    /* no structure has the name */
+    PANBUCKLE_OVERLAP = 17    /* two boundaries mark one cell */
 };
 
 enum {
-    PANBUCKLE_MOST_POINTS = 4096, /* forward and a step take so many points at the most */
-    PANBUCKLE_MOST_RECTS = 16384  /* backward takes so many rectangles at the most */
+    PANBUCKLE_MOST_POINTS = 4096,  /* forward and a step take so many points at the most, and so many corners are read */
+    PANBUCKLE_MOST_RECTS = 16384,  /* backward takes so many rectangles at the most */
+    PANBUCKLE_GDSII_SCRATCH = 8192 /* how many numbers the scratch array of panbuckle_read_gdsii has */
 };
 
 /* The places of a result's numbers. */
 enum {
     PANBUCKLE_ANSWER = 0, /* one of the answers above, which the function also returns */
     PANBUCKLE_PLACE = 1,  /* 0 with PANBUCKLE_DONE */
-    PANBUCKLE_COUNT = 2,  /* forward: rectangles; backward: points; a step: points that are left; 0 with a refusal */
+    PANBUCKLE_COUNT = 2,  /* forward: rectangles; backward: points; a step: points that are left; a stream: corners; 0 with a refusal */
     PANBUCKLE_AREA = 3,   /* forward only: the sum of W * H; 0 with a refusal */
     PANBUCKLE_EDGE = 4    /* forward only: the length of the outline of the marked cells; 0 with a refusal */
 };
@@ -140,6 +148,26 @@ uint32_t panbuckle_step(int32_t *PANBUCKLE_LENT work, size_t work_length, size_t
 PANBUCKLE_ACCESS(__read_only__, 1, 2) PANBUCKLE_ACCESS(__write_only__, 3, 4)
 uint32_t panbuckle_backward(const int32_t *PANBUCKLE_LENT rects, size_t rects_length, int32_t *PANBUCKLE_LENT points, size_t points_length,
                             uint64_t result[PANBUCKLE_FIXED 3]);
+
+/* GDSII in: the corners of one layer's boundaries in one structure of a stream file, in the stream's order, ready for forward. They mark each
+ * unit cell that a boundary marks by the even-odd rule, and no other. A corner where two boundaries meet is there twice, and forward takes it.
+ * docs/GDSII.md says what of the format is read, skipped and refused.
+ *
+ * bytes    the stream file, up to gigabytes: only read, once, from the start to ENDLIB; nothing after that matters.
+ * name     the structure's name, without padding: the first structure that has it is read.
+ * layer    the layer: any number; where the structure has none of it, there are no corners. All datatypes of the layer are read.
+ * scratch  scratch space of 8192 numbers, whatever they are; on every answer all of them are 0 afterwards.
+ * corners  room for the corners, two numbers to each. With PANBUCKLE_DONE it begins with x and y of each; what is past them, and all of it
+ *          on any refusal, is as it was. There are at most 4096; PANBUCKLE_ROOM's place is their number.
+ * result   answer, place, count: always all three are written. With TRUNCATED, RECORD, OPEN and SLANTED the place is the byte of the file where
+ *          the record begins, or should.
+ *
+ * Checked in this order, of the first four the one that is met first in the stream: TRUNCATED, RECORD, OPEN, SLANTED, ABSENT, MANY, RANGE,
+ * OVERLAP, ROOM. */
+PANBUCKLE_ACCESS(__read_only__, 1, 2) PANBUCKLE_ACCESS(__read_only__, 3, 4) PANBUCKLE_ACCESS(__write_only__, 7, 8)
+uint32_t panbuckle_read_gdsii(const uint8_t *PANBUCKLE_LENT bytes, size_t bytes_length, const uint8_t *PANBUCKLE_LENT name, size_t name_length,
+                              int32_t layer, int32_t scratch[PANBUCKLE_FIXED 8192], int32_t *PANBUCKLE_LENT corners, size_t corners_length,
+                              uint64_t result[PANBUCKLE_FIXED 3]);
 
 #ifdef __cplusplus
 }

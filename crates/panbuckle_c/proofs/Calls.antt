@@ -7,7 +7,7 @@ use Rattle.plane.proofs.Outcomes.{one-outcome}
 use Rattle.entry.proofs.Entry.{done-one-outcome}
 use Rattle.rule.proofs.ForwardCall.{forward-one-outcome}
 use Rattle.rule.proofs.StepCall.{step-one-outcome}
-use Rattle.panbuckle_c.specs.Face.{Told, ForwardCalled, BackwardCalled, StepCalled}
+use Rattle.panbuckle_c.specs.Face.{Told, ForwardCalled, BackwardCalled, StepCalled, ReadCalled}
 
 -- of numbers that are told
 told-one-outcome : {numbers : List ℕ} {r s : ℕ} {m n : List ℕ} → Told numbers r m → Told numbers s n → (r ≡ s) × (m ≡ n)
@@ -30,3 +30,9 @@ step-call-one-outcome d e =
     let l = step-one-outcome (d .done) (e .done) in
     let t = told-one-outcome (rw (l .0) at (d .told)) (e .told) in
     (t .0, l .1, one-outcome (rw (l .0) at (d .rectangle)) (e .rectangle), t .1)
+
+pub read-call-one-outcome : {t name : List ℕ} {layer : ℤ} {out : List ℤ} {r s : ℕ} {v w o p : List ℤ} {m n : List ℕ} → ReadCalled t name layer out r v o m → ReadCalled t name layer out s w p n → (r ≡ s) × (v ≡ w) × (o ≡ p) × (m ≡ n)
+read-call-one-outcome d e =
+    let l = done-one-outcome (d .done .done) (e .done .done) in
+    let t = told-one-outcome (rw (l .0) at (d .told)) (e .told) in
+    (t .0, one-outcome (d .done .scratch) (e .done .scratch), l .1, t .1)

@@ -13,6 +13,7 @@ use Rattle.rule.specs.declared.StepAnswer.the-variants.{Rectangle, Refused}
 use Rattle.rule.specs.ForwardCall.{ForwardDone}
 use Rattle.rule.specs.BackwardCall.{BackwardDone}
 use Rattle.rule.specs.StepCall.{StepDone}
+use Rattle.gdsii.specs.Call.{ReadDone}
 
 -- ---- The numbers of a result
 
@@ -59,6 +60,12 @@ pub record StepCalled (work : List ℤ) (n : ℕ) (rect : List ℤ) (r : ℕ) (w
   pub done : StepDone work n said work-after
   pub rectangle : rect-after ≡ rectNumbers said rect
   pub told : Told (countedNumbers (stepCounted said)) r result-after
+
+-- panbuckle_read_gdsii, the reading of a stream
+pub record ReadCalled (t name : List ℕ) (layer : ℤ) (out : List ℤ) (r : ℕ) (scratch-after out-after : List ℤ) (result-after : List ℕ) : Type 0 where
+  pub said : Counted
+  pub done : ReadDone t name layer out said scratch-after out-after
+  pub told : Told (countedNumbers said) r result-after
 
 -- ---- The version
 

@@ -1,8 +1,8 @@
-// The C face of the library: the three entry points on plain numbers and arrays, and the face's version, declared for C in include/panbuckle.h.
+// The C face of the library: the four entry points on plain numbers and arrays, and the face's version, declared for C in include/panbuckle.h.
 // An array that is lent passes as a pointer and a length; one of a fixed size passes as a pointer.
 ghost use mathlib.Core.Path.{_≡_};
 ghost use mathlib.Core.List.{[], _∷_};
-ghost use Rattle.panbuckle_c.specs.Face.{forwardNumbers, countedNumbers, ForwardCalled, BackwardCalled, StepCalled, version};
+ghost use Rattle.panbuckle_c.specs.Face.{forwardNumbers, countedNumbers, ForwardCalled, BackwardCalled, StepCalled, ReadCalled, version};
 use entry::Counted;
 use entry::DONE;
 use entry::done;
@@ -92,6 +92,23 @@ pub extern "C" fn panbuckle_backward(
     ensures { λ r. ⌜ BackwardCalled (now (rects .entry)) (now (points .entry)) r (now (points .exit)) (now (result .exit)) ⌝ }
 {
     let r = panbuckle::backward(rects, points);
+    put_counted(result, r);
+    r.answer
+}
+
+// The corners of the layer's boundaries in the structure of the name. Gives the answer's number; the result's numbers are answer, place, count.
+#[no_mangle]
+pub extern "C" fn panbuckle_read_gdsii(
+    bytes: &[u8],
+    name: &[u8],
+    layer: i32,
+    scratch: &mut [i32; 8192],
+    corners: &mut [i32],
+    result: &mut [u64; 3],
+) -> u32
+    ensures { λ r. ⌜ ReadCalled (now (bytes .entry)) (now (name .entry)) layer (now (corners .entry)) r (now (scratch .exit)) (now (corners .exit)) (now (result .exit)) ⌝ }
+{
+    let r = gdsii::read_gdsii(bytes, name, layer, scratch, corners);
     put_counted(result, r);
     r.answer
 }

@@ -36,13 +36,15 @@ TOO_LONG = 3640 * b"00000000 00000000\n" + b"0000000 00000000\n"
 MOST_LINES = 200
 FEWEST_INPUTS = 90
 # So many calls does tests/refusals.c make.
-CALLS = 65
+CALLS = 92
 
-C_TYPES = {"u32": "uint32_t", "usize": "size_t", "&[i32]": "const int32_t *", "&mut [i32]": "int32_t *"}
+C_TYPES = {"u8": "uint8_t", "i32": "int32_t", "u32": "uint32_t", "u64": "uint64_t", "usize": "size_t"}
+SLICE = re.compile(r"&(mut )?\[(u8|i32)\]")
 FIXED = re.compile(r"&mut \[(i32|u64); (\d+)\]")
 FUNCTION = re.compile(r'pub extern "C" fn (\w+)\(([^)]*)\) -> (\w+)')
 CONSTANT = re.compile(r"^pub const (\w+): \w+ = (\d+);", re.MULTILINE)
 DEFINED = re.compile(r"^    PANBUCKLE_(MOST_\w+) = (\d+)", re.MULTILINE)
+SCRATCH = re.compile(r"^    PANBUCKLE_GDSII_SCRATCH = (\d+)|\bscratch\[PANBUCKLE_FIXED (\d+)\]", re.MULTILINE)
 DECLARED = re.compile(r"^((?:PANBUCKLE_ACCESS\(.*\)\n)?)(\w+ panbuckle_\w+\([^)]*\));", re.MULTILINE)
 RUST_DECLARED = re.compile(r"pub fn (panbuckle_\w+\([^)]*\) -> \w+);")
 ACCESS = re.compile(r"PANBUCKLE_ACCESS\((\w+), (\d+), (\d+)\)")
@@ -52,7 +54,7 @@ SYMBOL = re.compile(r"^(?:[0-9a-f]+)? +([TU]) (\w+)$", re.MULTILINE)
 WARNING = re.compile(r"^[^:\n]+:(\d+):\d+: warning: .*\[(-W[a-z-]+)=?\]$", re.MULTILINE)
 
 # Calls of which gcc warns, and which warning it is; and calls that are allowed.
-LENT = "int32_t points[8], work[8], rects[4], brief[2]; uint64_t result[5], three[3];"
+LENT = "int32_t points[8], work[8], rects[4], brief[2], scratch[8192]; uint64_t result[5], three[3]; uint8_t bytes[8];"
 WARNED = {
     "panbuckle_forward(points, 8, points, 8, rects, 4, result)": "-Wrestrict",
     "panbuckle_forward(points, 8, work, 8, work, 8, result)": "-Wrestrict",
@@ -65,30 +67,39 @@ WARNED = {
     "panbuckle_backward(NULL, 4, points, 8, three)": "-Wnonnull",
     "panbuckle_step(work, 8, 4, NULL, three)": "-Wnonnull",
     "panbuckle_backward(rects, 4, points, 8, NULL)": "-Wnonnull",
+    "panbuckle_read_gdsii(bytes, 8, bytes, 8, 1, scratch, scratch, 8192, three)": "-Wrestrict",
+    "panbuckle_read_gdsii(bytes, 9, NULL, 0, 1, scratch, points, 8, three)": "-Wstringop-overread",
+    "panbuckle_read_gdsii(bytes, 8, bytes, 9, 1, scratch, points, 8, three)": "-Wstringop-overread",
+    "panbuckle_read_gdsii(bytes, 8, bytes, 8, 1, points, work, 8, three)": "-Wstringop-overflow",
+    "panbuckle_read_gdsii(bytes, 8, bytes, 8, 1, scratch, points, 9, three)": "-Wstringop-overflow",
+    "panbuckle_read_gdsii(bytes, 8, bytes, 8, 1, NULL, points, 8, three)": "-Wnonnull",
+    "panbuckle_read_gdsii(NULL, 8, bytes, 8, 1, scratch, points, 8, three)": "-Wnonnull",
     "panbuckle_forward(points, 8, work, 8, rects, 4, result)": None,
     "panbuckle_forward(NULL, 0, NULL, 0, NULL, 0, result)": None,
     "panbuckle_step(NULL, 0, 0, rects, three)": None,
     "panbuckle_backward(NULL, 0, NULL, 0, three)": None,
+    "panbuckle_read_gdsii(bytes, 8, bytes, 8, 1, scratch, points, 8, three)": None,
+    "panbuckle_read_gdsii(NULL, 0, NULL, 0, 1, scratch, NULL, 0, three)": None,
 }
 
 
 def c_parameters(name, kind):
     """The parameters in C of one in Rattle: a slice is a pointer and a length."""
-    fixed = FIXED.fullmatch(kind)
+    fixed, lent = FIXED.fullmatch(kind), SLICE.fullmatch(kind)
     if fixed:
-        return [f"{'int32_t' if fixed[1] == 'i32' else 'uint64_t'} {name}[PANBUCKLE_FIXED {fixed[2]}]"]
-    if kind.endswith("[i32]"):
-        return [f"{C_TYPES[kind]}PANBUCKLE_LENT {name}", f"size_t {name}_length"]
+        return [f"{C_TYPES[fixed[1]]} {name}[PANBUCKLE_FIXED {fixed[2]}]"]
+    if lent:
+        return [f"{'' if lent[1] else 'const '}{C_TYPES[lent[2]]} *PANBUCKLE_LENT {name}", f"size_t {name}_length"]
     return [f"{C_TYPES[kind]} {name}"]
 
 
 def rust_parameters(name, kind):
     """The parameters in Rust, where it calls C, of one in Rattle."""
-    fixed = FIXED.fullmatch(kind)
+    fixed, lent = FIXED.fullmatch(kind), SLICE.fullmatch(kind)
     if fixed:
         return [f"{name}: *mut {fixed[1]}"]
-    if kind.endswith("[i32]"):
-        return [f"{name}: {'*mut' if 'mut' in kind else '*const'} i32", f"{name}_length: usize"]
+    if lent:
+        return [f"{name}: {'*mut' if lent[1] else '*const'} {lent[2]}", f"{name}_length: usize"]
     return [f"{name}: {kind}"]
 
 
@@ -129,6 +140,8 @@ def header_faults(header):
     limits = [pair for pair in CONSTANT.findall(LIMITS.read_text(encoding="utf-8")) if pair[0].startswith("MOST_")]
     defined = DEFINED.findall(header)
     yield None if limits and limits == defined else f"the limits are {limits}, and in the header {defined}"
+    sizes = {named or fixed for named, fixed in SCRATCH.findall(header)}
+    yield None if len(sizes) == 1 else f"there is not one size of the scratch array but {sizes}"
     versions = {*VERSION.findall(header), dict(CONSTANT.findall(source)).get("VERSION"), *re.findall(r"panbuckle_version_(\d+)", header)}
     yield None if len(versions) == 1 else f"there is not one version but {versions}"
 
@@ -199,6 +212,13 @@ def version_faults(folder, header):
 def archived():
     """Whether the archive could be proved and written."""
     return subprocess.run(["rt", "staticlib", "panbuckle_c"], cwd=ROOT, check=False, stdout=subprocess.DEVNULL).returncode == 0
+
+
+def made():
+    """Whether the archive is there; this script may have made it of the same sources."""
+    sources = [ROOT / "crates.txt", *(ROOT / "crates").rglob("*")]
+    fresh = ARCHIVE.exists() and all(source.stat().st_mtime < ARCHIVE.stat().st_mtime for source in sources)
+    return fresh or archived()
 
 
 def built(source, folder):

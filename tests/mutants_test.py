@@ -223,7 +223,7 @@ class Choice(unittest.TestCase):
 
     def test_every_crate_that_has_code(self):
         crates = {mutant.crate for mutant in self.chosen}
-        self.assertEqual(set(crates_of(ROOT)) - crates, {"live", "rule"})
+        self.assertEqual(set(crates_of(ROOT)) - crates, {"boundaries", "live", "rule"})
 
     def test_the_same_each_time(self):
         again = chosen(all_mutants(ROOT), SCRIPT.COUNT, SCRIPT.SEED)

@@ -44,7 +44,8 @@ LIST_LINE = re.compile(r"\s*[-*+] ")
 LABELLED_LINE = re.compile(rf"- (?:{'|'.join(LABELS)}): \S")
 ONE_CITATION = re.compile(r"- \w+: `[^`,]+`")
 REQUEST_HEADING = re.compile(r"## Request (\d+)\b")
-OPEN_MARK = re.compile(r"(?<![\w-])open\s*\([^)]*\)|(?<=: )open\s*$", re.IGNORECASE)
+# In capitals it is a refusal's name.
+OPEN_MARK = re.compile(r"(?<![\w-])[Oo]pen\s*\([^)]*\)|(?<=: )[Oo]pen\s*$")
 # With a letter K it is the rule that a reader is told, not a promise.
 GOOD_OPEN_MARK = re.compile(r"open \(base ([2-6K])\)")
 
@@ -244,15 +245,16 @@ def count_open(lines, tally):
 # ---- The documents
 
 
-def quotes_by_request(lines):
-    """The quotes with their places, by the number of the request that the heading above them names; None where it names none."""
+def quotes_by_request(lines, rows):
+    """The quotes with their places, by the number of the request that the heading above them names; None where it names none. A row of
+    README's table of refusals, in the section of the request that brought it, is README's and not the document's."""
     quotes, request = {None: []}, None
     for line in lines:
         if line.text.startswith("## "):
             named = REQUEST_HEADING.match(line.text)
             request = named.group(1) if named else None
             quotes.setdefault(request, [])
-        elif line.is_quote():
+        elif line.is_quote() and not (request and table_cells(line.quote()) in rows):
             quotes[request].append((place_of(line), line.quote()))
     return quotes
 
@@ -286,7 +288,8 @@ def check_all(root, tally):
         return
     lines = check_page(root, (root / PROMISES).read_text(encoding="utf-8"), tally)
     print(f"open promises: {count_open(lines, tally)}")
-    check_documents(root, quotes_by_request(lines), tally)
+    rows = [cells for _, cells in table_rows((root / README).read_text(encoding="utf-8"), REFUSALS_HEADER) or []]
+    check_documents(root, quotes_by_request(lines, rows), tally)
 
 
 def main():

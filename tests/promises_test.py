@@ -540,6 +540,15 @@ class Requests(CheckerCase):
         changes = {REQUESTS: self.TEXT, PROMISES: self.section("Each is so.\n", "Each is so. It is not.\n")}
         self.assert_fault(changes, f"{PROMISES}:{EXTRA_LINE + 5}: not the words of request 1 of document 02: Each is so. It is not.")
 
+    def test_row_of_the_table_of_refusals(self):
+        row = "> 11 | FAULT-11 | it is so | 0\n- later: request 9\n\n"
+        self.assert_passes({REQUESTS: self.TEXT, PROMISES: promises(extra=self.SECTION + row)})
+
+    def test_row_that_the_table_does_not_have(self):
+        row = "> 11 | FAULT-11 | it is not so | 0\n- later: request 9\n\n"
+        fault = f"{PROMISES}:{EXTRA_LINE + 8}: not the words of request 1 of document 02: 11 | FAULT-11 | it is not so | 0"
+        self.assert_fault({REQUESTS: self.TEXT, PROMISES: promises(extra=self.SECTION + row)}, fault)
+
     def test_request_that_is_not_there(self):
         result = run_checker({REQUESTS: self.TEXT, PROMISES: self.section("Request 1", "Request 3")})
         self.assertIn("request 3 of document 02 has no sentence", result.stdout.splitlines())

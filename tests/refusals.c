@@ -7,7 +7,7 @@
 
 enum { LENT = 40, SEVEN = 7 };
 
-static int32_t work[LENT], out[LENT], rect[4];
+static int32_t work[LENT], out[LENT], rect[4], scratch[PANBUCKLE_GDSII_SCRATCH + LENT];
 static uint64_t result[5];
 static int calls;
 
@@ -19,6 +19,8 @@ static void lend(void)
         rect[i] = SEVEN;
     for (int i = 0; i < 5; i++)
         result[i] = SEVEN;
+    for (int i = 0; i < PANBUCKLE_GDSII_SCRATCH + LENT; i++)
+        scratch[i] = SEVEN;
 }
 
 /* Whether an array begins with these numbers and is all 7s after them. */
@@ -172,16 +174,136 @@ static void step_calls(void)
  * because there are too many rectangles. */
 static void diamond_calls(int half, uint32_t number, uint64_t count)
 {
-    static int32_t diamond[4 * 2 * 129], scratch[4 * 2 * 129], list[4 * 129 * 129], back[4 * 2 * 129];
+    static int32_t diamond[4 * 2 * 129], spare[4 * 2 * 129], list[4 * 129 * 129], back[4 * 2 * 129];
     size_t length = 8 * (size_t)half;
     for (int i = 0; i < 2 * half; i++) {
         int wide = i < half ? i + 1 : 2 * half - i;
         memcpy(diamond + 4 * i, (int32_t[4]){-wide, i, wide, i}, sizeof(int32_t[4]));
     }
-    uint32_t listed = panbuckle_forward(diamond, length, scratch, length, list, sizeof list / sizeof list[0], result);
+    uint32_t listed = panbuckle_forward(diamond, length, spare, length, list, sizeof list / sizeof list[0], result);
     judge("forward of a diamond", listed, PANBUCKLE_DONE, 0, (uint64_t)half * (uint64_t)half, 1);
     uint32_t gone_back = panbuckle_backward(list, 4 * (size_t)half * (size_t)half, back, length, result);
     judge("backward of its list", gone_back, number, 0, count, number != PANBUCKLE_DONE || memcmp(diamond, back, length * sizeof back[0]) == 0);
+}
+
+/* ---- Stream files */
+
+enum { HEADER, BGNLIB, LIBNAME, UNITS, ENDLIB, BGNSTR, STRNAME, ENDSTR, BOUNDARY, PATH, LAYER = 13, DATATYPE, XY = 16, ENDEL };
+enum { NO_DATA, TWO_BYTES = 2, FOUR_BYTES, REAL = 5, STRING, MOST_DATA = 65528 };
+/* Where the first element of the structure begins, and where the list of a boundary that is the first element does. */
+enum { FIRST_ELEMENT = 92, FIRST_LIST = 108, HEAD = 4 };
+
+static const uint8_t asked[] = {'A', 'B'};
+static const int32_t pad[10] = {0, 0, 4, 0, 4, 3, 0, 3, 0, 0};
+static uint8_t stream[2 * (HEAD + MOST_DATA)], whole[sizeof stream];
+static size_t stream_length;
+
+static void add_record(int type, int data_type, const uint8_t *data, size_t length)
+{
+    uint8_t *head = stream + stream_length;
+    head[0] = (uint8_t)((HEAD + length) >> 8);
+    head[1] = (uint8_t)(HEAD + length);
+    head[2] = (uint8_t)type;
+    head[3] = (uint8_t)data_type;
+    memcpy(head + HEAD, data, length);
+    stream_length += HEAD + length;
+}
+
+/* A file up to the first element of the structure. */
+static void begin_stream(void)
+{
+    static const uint8_t empty[24];
+    stream_length = 0;
+    add_record(HEADER, TWO_BYTES, empty, 2);
+    add_record(BGNLIB, TWO_BYTES, empty, 24);
+    add_record(LIBNAME, STRING, empty, 0);
+    add_record(UNITS, REAL, empty, 16);
+    add_record(BGNSTR, TWO_BYTES, empty, 24);
+    add_record(STRNAME, STRING, asked, sizeof asked);
+}
+
+/* A boundary of layer 1: the list, so many times one after another. */
+static void add_boundary(const int32_t *list, size_t length, size_t times)
+{
+    static const uint8_t numbers[2][2] = {{0, 1}, {0, 0}};
+    static uint8_t data[MOST_DATA];
+    for (size_t i = 0; i < length * times; i++)
+        for (size_t byte = 0; byte < 4; byte++)
+            data[4 * i + byte] = (uint8_t)((uint32_t)list[i % length] >> (24 - 8 * byte));
+    add_record(BOUNDARY, NO_DATA, data, 0);
+    add_record(LAYER, TWO_BYTES, numbers[0], 2);
+    add_record(DATATYPE, TWO_BYTES, numbers[1], 2);
+    add_record(XY, FOUR_BYTES, data, 4 * length * times);
+    add_record(ENDEL, NO_DATA, data, 0);
+}
+
+static void end_stream(void)
+{
+    add_record(ENDSTR, NO_DATA, asked, 0);
+    add_record(ENDLIB, NO_DATA, asked, 0);
+}
+
+static void stream_of(const int32_t *list, size_t length, size_t times)
+{
+    begin_stream();
+    add_boundary(list, length, times);
+    end_stream();
+}
+
+/* Reads so much of the file, and judges the answer, the corners, the scratch array and that the file is as it was. */
+static void read_gives(const char *what, size_t length, size_t asked_length, int32_t layer, size_t room, uint32_t number, uint64_t place,
+                       size_t count)
+{
+    lend();
+    memcpy(whole, stream, sizeof stream);
+    uint32_t returned = panbuckle_read_gdsii(length > 0 ? stream : NULL, length, asked_length > 0 ? asked : NULL, asked_length, layer, scratch,
+                                             lent(out, room), room, result);
+    int kept = memcmp(whole, stream, sizeof stream) == 0 && result[3] == SEVEN && result[4] == SEVEN;
+    for (size_t i = 0; i < PANBUCKLE_GDSII_SCRATCH + LENT; i++)
+        kept = kept && scratch[i] == (i < PANBUCKLE_GDSII_SCRATCH ? 0 : SEVEN);
+    judge(what, returned, number, place, count, kept && begins(out, pad, 2 * count));
+}
+
+/* A refusal that leaves the corners alone, with room for them and with none. */
+static void read_refused(const char *what, size_t length, uint32_t number, uint64_t place)
+{
+    read_gives(what, length, sizeof asked, 1, LENT, number, place, 0);
+    read_gives(what, length, sizeof asked, 1, 0, number, place, 0);
+}
+
+static void read_calls(void)
+{
+    static const int32_t slanted[8] = {0, 0, 4, 0, 4, 3, 0, 0};
+    static const int32_t far[10] = {0, 0, 1000000001, 0, 1000000001, 3, 0, 3, 0, 0};
+    stream_of(pad, 10, 1);
+    read_gives("read DONE", stream_length, sizeof asked, 1, 8, PANBUCKLE_DONE, 0, 4);
+    read_gives("read DONE", stream_length, sizeof asked, 1, LENT, PANBUCKLE_DONE, 0, 4);
+    read_gives("read of a layer with nothing", stream_length, sizeof asked, 2, 0, PANBUCKLE_DONE, 0, 0);
+    read_gives("read of a layer with nothing", stream_length, sizeof asked, -1, LENT, PANBUCKLE_DONE, 0, 0);
+    read_gives("read ROOM", stream_length, sizeof asked, 1, 7, PANBUCKLE_ROOM, 4, 0);
+    read_gives("read ROOM", stream_length, sizeof asked, 1, 0, PANBUCKLE_ROOM, 4, 0);
+    read_gives("read ABSENT", stream_length, 1, 1, LENT, PANBUCKLE_ABSENT, 0, 0);
+    read_gives("read ABSENT", stream_length, 0, 1, 0, PANBUCKLE_ABSENT, 0, 0);
+    read_gives("read of NULL", 0, 0, 1, 0, PANBUCKLE_TRUNCATED, 0, 0);
+    read_refused("read of nothing", 0, PANBUCKLE_TRUNCATED, 0);
+    read_refused("read TRUNCATED", stream_length - 1, PANBUCKLE_TRUNCATED, stream_length - HEAD);
+    read_refused("read TRUNCATED", FIRST_LIST, PANBUCKLE_TRUNCATED, FIRST_LIST);
+    stream_of(pad, 8, 1);
+    read_refused("read OPEN", stream_length, PANBUCKLE_OPEN, FIRST_LIST);
+    stream_of(slanted, 8, 1);
+    read_refused("read SLANTED", stream_length, PANBUCKLE_SLANTED, FIRST_LIST);
+    stream_of(far, 10, 1);
+    read_refused("read RANGE", stream_length, PANBUCKLE_RANGE, 1);
+    stream_of(pad, 10, PANBUCKLE_MOST_POINTS / 4 + 1);
+    read_refused("read MANY", stream_length, PANBUCKLE_MANY, 0);
+    begin_stream();
+    add_boundary(pad, 10, 1);
+    add_boundary(pad, 10, 1);
+    end_stream();
+    read_refused("read OVERLAP", stream_length, PANBUCKLE_OVERLAP, 0);
+    begin_stream();
+    add_record(PATH, NO_DATA, asked, 0);
+    read_refused("read RECORD", stream_length, PANBUCKLE_RECORD, FIRST_ELEMENT);
 }
 
 static void version_call(void)
@@ -200,6 +322,7 @@ int main(void)
     step_calls();
     diamond_calls(128, PANBUCKLE_DONE, 512);
     diamond_calls(129, PANBUCKLE_MANY, 0);
+    read_calls();
     version_call();
     printf("%d calls\n", calls);
     return 0;

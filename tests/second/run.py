@@ -1,8 +1,10 @@
-"""Compares the compiled library with a second implementation of document 01: document.py, in Python, written from the document's words.
+"""Compares the compiled library with a second implementation: document.py and gdsii.py, in Python, written from the words of documents 01
+and 02.
 
 A C program, driver.c, is built with the archive and makes the calls. For each of them the number that comes back, every number of every
-array that was lent or read, and the guard zones around these must be what document.py says; for the plates document.py must also say what
-document 01 itself states. functions.py has the table of the functions, and says how one is added.
+array that was lent or read, and the guard zones around these must be what the second implementation says; for the plates it must also say
+what document 01 itself states, and for most stream files what they are made to give. functions.py has the table of the functions, and says
+how one is added.
 
 Each call is a test. The first ones that differ are printed with their numbers; `--call N` makes that call alone and prints the lines that
 go to the driver and come back. The last line is 'N passed, M failed', and the exit status is 0 exactly when M is 0.
@@ -19,14 +21,18 @@ from pathlib import Path
 HERE = Path(__file__).resolve().parent
 sys.path.insert(0, str(HERE.parent))
 
-from c_face import archived, built
+from c_face import built, made
 from document import DONE, NAMES, points_of
 from edges import length_groups, pair_groups, range_groups, room_groups, step_groups, stop_groups, vanishing_groups
 from families import grid_groups, large_groups, listing_groups, outline_groups, repeated_groups, small_groups
-from functions import FUNCTIONS, NUMBER, READ
-from machine import ARCHIVE, ROOT, emulator
+from functions import FUNCTIONS, LENT, NUMBER, READ
+from machine import emulator
 from plates import plate_groups
+from record_families import RECORD_FAMILIES
+from shape_families import SHAPE_FAMILIES
 
+# The families of stream files, and the fewest files that each must give.
+FAMILIES = {**RECORD_FAMILIES, **SHAPE_FAMILIES}
 GENERATORS = (
     plate_groups,
     pair_groups,
@@ -42,9 +48,10 @@ GENERATORS = (
     outline_groups,
     listing_groups,
     repeated_groups,
+    *FAMILIES,
 )
-# How many groups of calls, each with an array of its own, there must be at least.
-FEWEST_GROUPS = {"forward": 53_000, "step": 3_475, "backward": 5_765}
+# How many groups of calls, each with an array or a file of its own, there must be at least.
+FEWEST_GROUPS = {"forward": 53_000, "step": 3_475, "backward": 5_765, "read_gdsii": sum(FAMILIES.values())}
 # On how many different arrays without a repeated point the edge must be compared at least: that is a field of the result of forward on answer 0.
 FEWEST_EDGES = 20_000
 # And on how many with one.
@@ -53,6 +60,7 @@ FEWEST_REPEATED = 20_000
 BATCH = 1_000_000
 MOST_PRINTED = 5
 LONGEST_PRINTED = 600
+MOST_STATED = 20
 
 
 # ---- A call as a line, and what is printed for it
@@ -61,8 +69,10 @@ LONGEST_PRINTED = 600
 def words_of(parameter, argument):
     """An argument as the driver reads it."""
     if parameter.kind == NUMBER:
-        return parameter.type, argument
-    return parameter.type, argument.length, argument.fill, len(argument.numbers), *argument.numbers
+        return NUMBER, argument
+    numbers = argument.numbers
+    words = ([numbers.hex()] if numbers else []) if isinstance(numbers, bytes) else numbers
+    return parameter.type, argument.length, argument.fill, len(numbers), *words
 
 
 def line_of(call):
@@ -72,11 +82,13 @@ def line_of(call):
 
 
 def numbers_in(words):
-    """All numbers of an array, of which the equal ones at the end are one word."""
-    if not words:
-        return []
-    number, count = words[-1].split("*")
-    return [*map(int, words[:-1]), *[int(number)] * int(count)]
+    """All numbers of an array, of which the equal ones at the end are one word; or None if they are as they were."""
+    if words == ["="]:
+        return None
+    *first, last = words
+    number, count = last.split("*")
+    numbers = [int(number)] * int(count)
+    return [*map(int, first), *numbers] if first else numbers
 
 
 def outcome_in(line):
@@ -94,24 +106,28 @@ def array_names(call):
 
 
 def value_of(parameter, argument):
-    """An argument as the definition gets it: a number, a tuple that is only read, or a list that is lent."""
+    """An argument as the definition gets it: a number, a tuple or bytes that are only read, or a list that is lent."""
     if parameter.kind == NUMBER:
         return argument
-    return argument.whole() if parameter.kind == READ else list(argument.whole())
+    return argument.numbers if parameter.kind == READ else argument.whole()
 
 
 def outcome_of(call):
-    """What the definition says comes of a call, in the same form. No guard byte is changed."""
+    """What the definition says comes of a call: the number returned, and the arrays. No guard byte is changed."""
     function = FUNCTIONS[call.name]
     values = list(map(value_of, function.parameters, call.arguments))
     returned = function.definition(*values)
-    return returned, [(0, list(value)) for value in values if not isinstance(value, int)]
+    return returned, [(0, value) for value in values if not isinstance(value, int)]
+
+
+def in_full(call, arrays):
+    """The arrays that the driver printed, with the numbers of those that are as they were."""
+    given = [pair for pair in zip(FUNCTIONS[call.name].parameters, call.arguments) if pair[0].kind != NUMBER]
+    return [(guards, value_of(*before) if numbers is None else numbers) for (guards, numbers), before in zip(arrays, given)]
 
 
 def array_faults(names, wanted, got):
     """What is wrong with the arrays after a call."""
-    if len(got) != len(wanted):
-        yield f"there are {len(got)} arrays instead of {len(wanted)}"
     for name, (_, right), (guards, numbers) in zip(names, wanted, got):
         if guards:
             yield f"{guards} bytes beside {name} are changed"
@@ -123,24 +139,27 @@ def array_faults(names, wanted, got):
 
 
 def stated_faults(call, outcome):
-    """What document 01 states of a call and does not hold of an outcome."""
+    """What is stated of a call and does not hold of an outcome."""
     arrays = dict(zip(array_names(call), outcome[1]))
     for name, numbers in (call.stated or {}).items():
         begins = arrays[name][1][: len(numbers)]
         if [a if b is not None else None for a, b in zip(begins, numbers)] != list(numbers):
-            yield f"{name} begins with {begins}, and document 01 states {list(numbers)}"
+            yield f"{name} begins with {begins[:MOST_STATED]}, and {list(numbers[:MOST_STATED])} is stated"
 
 
 def difference(call, line):
     """How what the driver printed differs from what is wanted, in words; or an empty text."""
     try:
-        got = outcome_in(line)
+        returned, arrays = outcome_in(line)
     except (ValueError, IndexError):
         return f"the driver printed {line[:LONGEST_PRINTED]!r}"
     wanted = outcome_of(call)
+    if len(arrays) != len(wanted[1]):
+        return f"there are {len(arrays)} arrays instead of {len(wanted[1])}"
+    got = returned, in_full(call, arrays)
     faults = list(stated_faults(call, wanted)) if call.stated else []
     if got != wanted:
-        faults += [f"it returned {got[0]} instead of {wanted[0]}"] if got[0] != wanted[0] else []
+        faults += [f"it returned {returned} instead of {wanted[0]}"] if returned != wanted[0] else []
         faults += array_faults(array_names(call), wanted[1], got[1])
     return "; ".join(faults)
 
@@ -177,6 +196,7 @@ class Tally:
         for name, function in FUNCTIONS.items():
             answers = ", ".join(f"{NAMES[number]} {self.answers[name, str(number)]}" for number in function.answers)
             yield f"{name}: {self.groups[name]} arrays, {self.calls[name]} calls; {answers}"
+        yield "files: " + ", ".join(f"{family.__name__} {self.groups[family]}" for family in FAMILIES)
         yield f"edge: {len(self.edges)} different arrays, and {len(self.repeated)} with a point listed more than once"
 
     def gaps(self):
@@ -187,6 +207,9 @@ class Tally:
             missing = [NAMES[number] for number in function.answers if not self.answers[name, str(number)]]
             if missing:
                 yield f"{name}: no call is answered with {', '.join(missing)}"
+        for family, fewest in FAMILIES.items():
+            if self.groups[family] < fewest:
+                yield f"{family.__name__}: there are {self.groups[family]} files, and at least {fewest} are wanted"
         if len(self.edges) < FEWEST_EDGES:
             yield f"edge: there are {len(self.edges)} arrays, and at least {FEWEST_EDGES} are wanted"
         if len(self.repeated) < FEWEST_REPEATED:
@@ -203,11 +226,18 @@ def printed(command, calls):
 
 
 def all_calls(groups=None):
-    """All calls of all generators; their groups are counted."""
-    for group in chain.from_iterable(generate() for generate in GENERATORS):
-        if groups is not None:
-            groups[group[0].name] += 1
-        yield from group
+    """All calls of all generators; their groups are counted by function and by generator."""
+    for generate in GENERATORS:
+        for group in generate():
+            if groups is not None:
+                groups.update((group[0].name, generate))
+            yield from group
+
+
+def size_of(call):
+    """How many numbers the arrays of a call have, but for those of a fixed size."""
+    sized = zip(FUNCTIONS[call.name].parameters, call.arguments)
+    return sum(argument.length for parameter, argument in sized if parameter.kind in (READ, LENT))
 
 
 def batches(calls):
@@ -215,7 +245,7 @@ def batches(calls):
     batch, size = [], 0
     for call in calls:
         batch.append(call)
-        size += sum(argument.length for argument in call.arguments if not isinstance(argument, int))
+        size += size_of(call)
         if size >= BATCH:
             yield batch
             batch, size = [], 0
@@ -242,13 +272,6 @@ def compare_one(command, number):
     fault = difference(call, line)
     print(line_of(call), line, *[fault] if fault else [], sep="\n")
     return 1 if fault else 0
-
-
-def made():
-    """Whether the archive is there; tests/c_face.py may have made it of the same sources."""
-    sources = [ROOT / "crates.txt", *(ROOT / "crates").rglob("*")]
-    fresh = ARCHIVE.exists() and all(source.stat().st_mtime < ARCHIVE.stat().st_mtime for source in sources)
-    return fresh or archived()
 
 
 def main():

@@ -21,7 +21,10 @@ from counting import run_tests
 from edges import pairs, vanishing
 from families import SEED, grid_groups, repeated_groups, repeating_points
 from functions import FIXED, FUNCTIONS, call, lent, read
+from gdsii import DATA, GRAMMAR, GRAMMAR_TEXT, TYPES, beginnings, corners_of, is_open, is_slanted, overlap
 from plates import A, E, E_LIST, I, forward
+from record_families import SEQUENCES, SHORT_START, cut_files, expansions, is_in_order
+from shape_families import walk
 
 HEADER = HERE.parent.parent / "include" / "panbuckle.h"
 DECLARED = re.compile(r"\bpanbuckle_(\w+)\(([^)]*\bresult\[[^)]*)\)")
@@ -29,7 +32,7 @@ PARAMETER = re.compile(r"(\w+)(?:\[[^]]*\])?(?:,|$)")
 
 SQUARE = call("forward", read(A), lent(9), lent(6))
 FILL, WIDE = "-1717171717", "17171717171717171717"
-RIGHT = f"0; 0 0 0 1 0 0 1*3; 0 0 0 0 0 0 0 0 0 {FILL}*1; 0 0 0 1 1 {FILL}*2; 0 0 0 1 1 4*1"
+RIGHT = f"0; 0 =; 0 0 0 0 0 0 0 0 0 {FILL}*1; 0 0 0 1 1 {FILL}*2; 0 0 0 1 1 4*1"
 
 
 class Comparison(unittest.TestCase):
@@ -45,17 +48,26 @@ class Comparison(unittest.TestCase):
     def test_the_line_of_a_call(self):
         wanted = f"forward i32 8 0 8 0 0 1 0 0 1 1 1 i32 9 {FILL} 0 i32 6 {FILL} 0 u64 5 {WIDE} 0"
         self.assertEqual(run.line_of(SQUARE), wanted)
-        self.assertEqual(run.line_of(call("step", lent(2, (5, 6, 7)), 1)), f"step i32 2 {FILL} 2 5 6 usize 1 i32 4 {FILL} 0 u64 3 {WIDE} 0")
+        self.assertEqual(run.line_of(call("step", lent(2, (5, 6, 7)), 1)), f"step i32 2 {FILL} 2 5 6 number 1 i32 4 {FILL} 0 u64 3 {WIDE} 0")
+
+    def test_the_line_of_a_call_with_bytes(self):
+        one = call("read_gdsii", read(b"\0\xfe"), read(b""), -1, lent(2))
+        wanted = f"read_gdsii u8 2 0 2 00fe u8 0 0 0 number -1 i32 8192 {FILL} 0 i32 2 {FILL} 0 u64 3 {WIDE} 0"
+        self.assertEqual(run.line_of(one), wanted)
+        self.assertEqual(run.difference(one, "12; 0 =; 0 =; 0 0*8192; 0 =; 0 12 0*2"), "")
 
     def test_what_is_right(self):
         self.assertEqual(run.difference(SQUARE, RIGHT), "")
 
     def test_a_changed_number(self):
-        self.check("0; 0 0 0 1 0", "8; 0 0 0 1 0", "it returned 8 instead of 0")
-        self.check("1 0 0 1*3", "1 0 0 1 1 2*1", "points[7] is 2 instead of 1, one of 1 such")
+        self.check("0; 0 =", "8; 0 =", "it returned 8 instead of 0")
+        self.check("=", "0 0 1 0 0 1 1 2*1", "points[7] is 2 instead of 1, one of 1 such")
         self.check(f"0 {FILL}*1", "0 0*1", f"work[8] is 0 instead of {FILL}")
         self.check(f"1 1 {FILL}*2", f"1 2 {FILL}*2", "rects[3] is 2 instead of 1")
         self.check("1 1 4*1", "1 1 5*1", "result[4] is 5 instead of 4")
+
+    def test_what_is_as_it_was_and_should_not_be(self):
+        self.check(f"0 0 1 1 {FILL}*2", "=", f"rects[0] is {FILL} instead of 0, one of 4 such")
 
     def test_a_changed_length(self):
         self.check(f"{FILL}*2", f"{FILL}*1", "rects has 5 numbers instead of 6")
@@ -78,7 +90,7 @@ class Comparison(unittest.TestCase):
     def test_what_the_document_states(self):
         plate = forward(E, 8, (0, 0, 3, None, 8), E_LIST)
         faults = list(run.stated_faults(plate, run.outcome_of(plate)))
-        self.assertEqual(faults, ["result begins with [0, 0, 2, 2, 8], and document 01 states [0, 0, 3, None, 8]"])
+        self.assertEqual(faults, ["result begins with [0, 0, 2, 2, 8], and [0, 0, 3, None, 8] is stated"])
 
     def test_what_was_not_compared(self):
         tally = run.Tally()
@@ -90,7 +102,8 @@ class Comparison(unittest.TestCase):
         self.assertIn(f"step: there are 0 arrays, and at least {run.FEWEST_GROUPS['step']} are wanted", gaps)
         self.assertIn(f"edge: there are 1 arrays, and at least {run.FEWEST_EDGES} are wanted", gaps)
         self.assertIn(f"repeated: there are 1 arrays, and at least {run.FEWEST_REPEATED} are wanted", gaps)
-        self.assertEqual((len(gaps), tally.faults), (7, []))
+        self.assertIn(f"cut_files: there are 0 files, and at least {run.FAMILIES[cut_files]} are wanted", gaps)
+        self.assertEqual((len(gaps), tally.faults), (9 + len(run.FAMILIES), []))
 
 
 class Table(unittest.TestCase):
@@ -257,6 +270,76 @@ class Definition(unittest.TestCase):
             points = document.points_of(numbers)
             back = document.corners(tuple(document.rectangles(points)))
             self.assertEqual(back, sorted(points, key=lambda point: point[::-1]))
+
+
+def names_in(part):
+    """The records and rules that a part of a rule names."""
+    return {part} if isinstance(part, str) else set().union(*map(names_in, part[1]))
+
+
+class Grammar(unittest.TestCase):
+    """The format's order, as it is followed, and as a pattern."""
+
+    def test_every_name_is_a_rule_or_a_record(self):
+        named = set().union(*(names_in(part) for parts in GRAMMAR.values() for part in parts))
+        self.assertEqual(named, (set(GRAMMAR) - {"stream"}) | set(DATA))
+        self.assertLessEqual(set(DATA), set(TYPES))
+
+    def test_the_page_has_it(self):
+        self.assertIn(GRAMMAR_TEXT, (HEADER.parent.parent / "docs" / "GDSII.md").read_text(encoding="utf-8"))
+
+    def test_what_it_allows_is_in_order(self):
+        for names in expansions(GRAMMAR["element"]):
+            self.assertTrue(is_in_order((*SHORT_START, "BGNSTR", "STRNAME", *names, "ENDSTR", "ENDLIB")), names)
+        for names in (*SEQUENCES, *((*start, "ENDLIB") for start in expansions(GRAMMAR["stream"][:-2]))):
+            self.assertTrue(is_in_order(names), names)
+
+    def test_a_part_begins_with_a_record(self):
+        self.assertEqual(beginnings("strans"), {"STRANS"})
+        self.assertEqual(beginnings("element"), {"BOUNDARY", "PATH", "SREF", "AREF", "TEXT", "NODE", "BOX"})
+
+
+def is_inside(a, b, vertices):
+    """Whether a ray from a cell to the left meets an odd number of edges."""
+    edges = zip(vertices, vertices[1:])
+    return document.odd(sum(x <= a and min(y, to_y) <= b < max(y, to_y) for (x, y), (_, to_y) in edges))
+
+
+class Streams(unittest.TestCase):
+    """The stream files, and what document 02's request 3 says follows, of some hundred boundaries by chance."""
+
+    @classmethod
+    def setUpClass(cls):
+        chance = Random(SEED)
+        lists = [walk(chance, 5) for _ in range(1500)]
+        cls.lists = [vertices for vertices in lists if not is_open(vertices) and not is_slanted(vertices)]
+        cls.cells = list(product(range(-1, 6), repeat=2))
+
+    def test_what_is_stated_of_the_first_files_of_each_family(self):
+        for family in run.FAMILIES:
+            for group in islice(family(), 50):
+                faults = [fault for one in group for fault in run.stated_faults(one, run.outcome_of(one))]
+                self.assertEqual(faults, [], family.__name__)
+
+    def test_the_corners_mark_what_the_boundary_marks(self):
+        self.assertGreater(len(self.lists), 1000)
+        for vertices in self.lists:
+            corners = list(corners_of(vertices))
+            for a, b in self.cells:
+                marked = document.odd(sum(x <= a and y <= b for x, y in corners))
+                self.assertEqual(marked, is_inside(a, b, vertices))
+
+    def test_rows_and_columns_have_even_counts_of_corners(self):
+        for vertices in self.lists:
+            self.assertEqual(list(document.line_refusals(list(corners_of(vertices)))), [])
+
+    def test_two_overlap_exactly_when_they_mark_one_cell(self):
+        found = Counter()
+        for one, other in zip(self.lists[0::2], self.lists[1::2]):
+            both = any(is_inside(a, b, one) and is_inside(a, b, other) for a, b in self.cells)
+            self.assertEqual(overlap([one, other]), both)
+            found[both] += 1
+        self.assertGreater(min(found[True], found[False]), 100)
 
 
 if __name__ == "__main__":

@@ -5,10 +5,10 @@ help:
 	@echo 'make help      print the targets'
 	@echo 'make test      run the test gate, .ci/run'
 	@echo 'make archive   prove the C face and write target/staticlib/libpanbuckle_c.a'
-	@echo 'make bench     time the library beside Boost.Polygon and std::sort, some minutes; no part of the gate'
+	@echo 'make bench     time the library beside Boost.Polygon, std::sort and KLayout, some minutes; no part of the gate'
 	@echo 'make edits     try the edits of tests/edits/ that have no fresh record, of all crates or of those named after it: half a minute each'
 	@echo 'make refusals  write the numbers of the refusals into include/panbuckle.h, and say where else they are missing'
-	@echo 'make mutants   have the prover check small edits of the code; it takes an hour or so, and is no part of the gate'
+	@echo 'make mutants   have the prover check small edits of the code; it takes some hours, and is no part of the gate'
 
 test:
 	@.ci/run

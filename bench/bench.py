@@ -1,7 +1,8 @@
-"""Builds Panbuckle's C face and the program compare.cpp, runs them on the families, and prints the figures of docs/SPEED.md.
+"""Builds Panbuckle's C face and the programs of this folder, runs them, and prints the figures of docs/SPEED.md.
 
-Both sides are built for x86-64 and run the same way: natively, or both under the kit's emulator on another processor, where only the
-ratios say something. Debian's packages that are wanted and not there are installed.
+The words are parts: points (the families of points, and backward), streams (the reading of GDSII). Without any, all are run. Both sides are built
+for x86-64 and run the same way: natively, or both under the kit's emulator on another processor, where only the ratios say something.
+Debian's packages that are wanted and not there are installed, but for KLayout, beside which streams are read: peers.py fetches it.
 """
 
 import os
@@ -12,6 +13,8 @@ import tempfile
 from pathlib import Path
 
 from families import FAMILIES, ORDERS, RECTANGLES, REFUSED, family, rectangles, refused
+from peers import FETCH, klayout
+from streams import AREAS, CORNERS, DEEP, LAYER, MEGABYTE, STREAMS, WANTED, write_stream
 
 sys.path.append(str(Path(__file__).resolve().parent.parent / "tests"))
 
@@ -26,6 +29,9 @@ COUNTS = (1024, 4096, 16384)
 # The most stack is used where a sort goes deepest, which takes few rectangles, or where backward's array of keys is filled once or more.
 STACK_SIZES = (64, 4096)
 STACK_COUNTS = (*range(1, 65), 384, 385, 768, 769, 1536, 4096, 16384)
+MEGABYTES = (10, 100)
+# How often KLayout reads each stream.
+TURNS = 3
 
 
 def run(*words, **named):
@@ -42,16 +48,17 @@ def ensure_tools():
         run("apt-get", "install", "-y", *wanted, **quiet)
 
 
-def built(folder):
-    """The program compare.cpp, built with the archive in a folder. Boost's headers serve any compiler, also one that does not look there.
+def built(folder, name="compare"):
+    """A program of this folder, built with the archive in a folder. Boost's headers serve any compiler, also one that does not look there.
     It is not static, since Debian's cross libm.a names files that are not there; and its symbols are bound at the start, so that the loader
     does not bind one on a stack that is measured."""
-    program = Path(folder) / "compare"
+    program = Path(folder) / name
     headers = Path(folder) / "headers"
-    headers.mkdir()
-    (headers / "boost").symlink_to(POLYGON.parent.parent)
+    if not headers.exists():
+        headers.mkdir()
+        (headers / "boost").symlink_to(POLYGON.parent.parent)
     words = ["-std=c++17", "-O3", "-Wl,-z,now", f"-I{ROOT / 'include'}", f"-I{headers}"]
-    run(COMPILER, *words, ROOT / "bench" / "compare.cpp", ARCHIVE, "-o", program)
+    run(COMPILER, *words, ROOT / "bench" / f"{name}.cpp", ARCHIVE, "-o", program)
     return program
 
 
@@ -71,7 +78,7 @@ def cross_program(program):
 
 
 class Bench:
-    """The program compare.cpp, and the files that it reads."""
+    """A program of this folder, and the files that it reads."""
 
     def __init__(self, folder, program):
         self.folder = Path(folder)
@@ -85,6 +92,12 @@ class Bench:
         """A file of points or rectangles."""
         path = self.folder / f"{name}.txt"
         path.write_text("".join(" ".join(map(str, item)) + "\n" for item in items), encoding="utf-8")
+        return path
+
+    def stream(self, name, parts):
+        """A file of a GDSII stream."""
+        path = self.folder / f"{name}.gds"
+        write_stream(path, parts)
         return path
 
 
@@ -166,19 +179,94 @@ def show_fracture(bench, name, n):
     table([f"fracture, {name.replace('_', ' ')}, {len(points)} points", "ms"], [*[[part, f"{time:.3f}"] for part, time in parts.items()], ["in all", f"{whole:.3f}"]])
 
 
+def show_points(folder):
+    """The families of points, forward, in a step, backward and by fracture."""
+    run("rt", "check", "fracture", cwd=ROOT)
+    bench = Bench(folder, built(folder))
+    show_growth(compare_forward(bench, SIZES), SIZES)
+    compare_backward(bench)
+    show_refused(bench)
+    show_stack(bench)
+    for name in ("rects", "noise"):
+        show_fracture(bench, name, SIZES[-1])
+
+
+def read_by_klayout(folder, files):
+    """KLayout's times, with all layers and with the asked one alone, by file; none where it is not there."""
+    library = Path(folder) / "main_stack.so"
+    run(COMPILER, "-x", "c", "-O2", "-shared", "-fPIC", ROOT / "bench" / "main_stack.c", "-o", library)
+    words = klayout(library)
+    if words is None:
+        print(f"\nKLayout is not here, so its columns are left out: {FETCH} fetches it")
+        return {}
+    asked = {"STREAMS": ":".join(map(str, files)), "STRUCTURE": WANTED.decode(), "LAYER": str(LAYER), "TURNS": str(TURNS)}
+    alone = {"HOME": folder, "QT_QPA_PLATFORM": "offscreen"}
+    printed = run(*words, "-zz", "-r", ROOT / "bench" / "klayout_read.py", env={**os.environ, **alone, **asked})
+    times = {}
+    for file, way, corners, time in (line.split() for line in printed.splitlines()):
+        ensure_corners(Path(file).stem.rpartition("_")[0], corners)
+        times.setdefault(file, {})[way] = float(time)
+    return times
+
+
+def ensure_corners(name, corners):
+    """What is read of a stream has as many corners as it should have."""
+    if int(corners) != CORNERS[name]:
+        raise SystemExit(f"{name}: {corners} corners are read, and not {CORNERS[name]}")
+
+
+def compare_streams(bench):
+    """The reading of streams of some megabytes, beside KLayout's, and beside a loop that goes from record to record."""
+    files = {(name, size): bench.stream(f"{name}_{size}", stream(size * MEGABYTE)) for name, stream in STREAMS.items() for size in MEGABYTES}
+    theirs = read_by_klayout(bench.folder, files.values())
+    rows = []
+    for (name, size), file in files.items():
+        ((_, length, records, corners, call, whole, hops),) = bench.rows("read", WANTED.decode(), LAYER, file)
+        ensure_corners(name, corners)
+        by_klayout = [f"{time:.0f} ({float(whole) / time:.3f})" for time in theirs.get(str(file), {}).values()]
+        speed = int(length) / MEGABYTE / (float(call) / 1000)
+        rows.append([name.replace("_", " "), f"{int(length) / MEGABYTE:.1f}", records, corners, call, f"{speed:.0f}", hops, whole, *by_klayout])
+    peers = ["KLayout, ms (ratio)", "KLayout, that layer alone"] if theirs else []
+    table(["stream", "MB", "records", "corners", "the call, ms", "MB a second", "a loop over the records, ms", "with the file, ms", *peers], rows)
+
+
+def compare_areas(bench):
+    """The reading of boundaries with many corners, beside forward's counting on the same corners."""
+    rows = []
+    for name, (stream, size) in AREAS.items():
+        ((_, corners, rects, call, forward),) = bench.rows("areas", WANTED.decode(), LAYER, bench.stream(name, stream(size)))
+        ensure_corners(name, corners)
+        rows.append([name.replace("_", " "), corners, rects, call, forward, f"{float(call) / float(forward):.2f}"])
+    table(["stream", "corners", "rectangles", "the call, ms", "forward counts, ms", "ratio"], rows)
+
+
+def reading_stack(bench):
+    """The most bytes of stack that a call uses which reads a stream."""
+    files = [bench.stream(name, stream(size)) for name, (stream, size) in DEEP.items()]
+    return max(int(stack) for _, _, stack in bench.rows("stack", WANTED.decode(), LAYER, *files))
+
+
+def show_streams(folder):
+    """The reading of GDSII."""
+    bench = Bench(folder, built(folder, "streams"))
+    compare_streams(bench)
+    compare_areas(bench)
+    table(["call", "bytes of stack, at most"], [["read_gdsii", reading_stack(bench)]])
+
+
+PARTS = {"points": show_points, "streams": show_streams}
+
+
 def main():
-    """Builds, runs and prints."""
+    """Builds, runs and prints the parts that the words name."""
+    wanted = sys.argv[1:] or list(PARTS)
+    if not set(wanted) <= set(PARTS):
+        raise SystemExit(f"bench.py: the parts are {', '.join(PARTS)}")
     ensure_tools()
     run("rt", "staticlib", "panbuckle_c", cwd=ROOT)
-    run("rt", "check", "fracture", cwd=ROOT)
-    with tempfile.TemporaryDirectory() as folder:
-        bench = Bench(folder, built(folder))
-        show_growth(compare_forward(bench, SIZES), SIZES)
-        compare_backward(bench)
-        show_refused(bench)
-        show_stack(bench)
-        for name in ("rects", "noise"):
-            show_fracture(bench, name, SIZES[-1])
+    for part in wanted:
+        with tempfile.TemporaryDirectory() as folder:
+            PARTS[part](folder)
     return 0
 
 

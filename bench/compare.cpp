@@ -8,19 +8,19 @@
 //   compare backstack FILE...   and backward on the rectangles of each file ("X Y W H" lines)
 //   compare program FILE WORD...  a program, given as words, with the file as its standard input
 //
-// Each line printed has the name, the sizes, and the best time of many, in milliseconds. Two that are compared take turns, so that both
-// meet the machine in the same state; COMPARE_FOR=MILLISECONDS says for how long, a second where it says nothing.
+// Each line printed has the name, the sizes, and the best time of many, in milliseconds (timing.hpp).
+#include "stack.hpp"
+#include "timing.hpp"
+
 #include <panbuckle.h>
 
 #include <fcntl.h>
 #include <spawn.h>
 #include <sys/wait.h>
-#include <ucontext.h>
 #include <unistd.h>
 
 #include <algorithm>
 #include <boost/polygon/polygon.hpp>
-#include <chrono>
 #include <cinttypes>
 #include <cstdio>
 #include <cstdlib>
@@ -40,61 +40,6 @@ using Box = boost::polygon::rectangle_data<int>;
 [[noreturn]] void give_up(const std::string &why) {
     std::fprintf(stderr, "compare: %s\n", why.c_str());
     std::exit(1);
-}
-
-// ---- Time
-
-double now() {
-    using namespace std::chrono;
-    return duration<double, std::milli>(steady_clock::now().time_since_epoch()).count();
-}
-
-template <class Work> double timed(Work work) {
-    double began = now();
-    work();
-    return now() - began;
-}
-
-// How long two that are compared take turns, in milliseconds; they have five turns at least.
-double how_long() {
-    const char *asked = std::getenv("COMPARE_FOR");
-    return asked ? std::atof(asked) : 1000;
-}
-
-// The best times of two that take turns.
-template <class Ours, class Theirs> std::pair<double, double> best_of(Ours ours, Theirs theirs) {
-    double until = now() + how_long(), our_best = 1e300, their_best = 1e300;
-    for (int turn = 0; turn < 5 || now() < until; turn++) {
-        our_best = std::min(our_best, timed(ours));
-        their_best = std::min(their_best, timed(theirs));
-    }
-    return {our_best, their_best};
-}
-
-template <class Ours> double best_of(Ours ours) { return best_of(ours, [] {}).first; }
-
-// ---- Stack
-
-constexpr size_t MOST_STACK = 1 << 18;
-constexpr unsigned char PAINT = 0xa5;
-void (*painted_work)(void *);
-void *painted_data;
-ucontext_t painted_return, painted_context;
-
-void on_painted_stack() { painted_work(painted_data); }
-
-// Runs work on a painted stack of its own, and counts the bytes from its start to the last one that has lost its paint.
-template <class Work> size_t stack_of(Work work) {
-    std::vector<unsigned char> stack(MOST_STACK, PAINT);
-    painted_work = [](void *data) { (*static_cast<Work *>(data))(); };
-    painted_data = &work;
-    getcontext(&painted_context);
-    painted_context.uc_stack.ss_sp = stack.data();
-    painted_context.uc_stack.ss_size = stack.size();
-    painted_context.uc_link = &painted_return;
-    makecontext(&painted_context, on_painted_stack, 0);
-    swapcontext(&painted_return, &painted_context);
-    return stack.end() - std::find_if(stack.begin(), stack.end(), [](unsigned char byte) { return byte != PAINT; });
 }
 
 // ---- Inputs

@@ -14,6 +14,17 @@ mod face {
         ) -> u32;
         pub fn panbuckle_step(work: *mut i32, work_length: usize, count: usize, rect: *mut i32, result: *mut u64) -> u32;
         pub fn panbuckle_backward(rects: *const i32, rects_length: usize, points: *mut i32, points_length: usize, result: *mut u64) -> u32;
+        pub fn panbuckle_read_gdsii(
+            bytes: *const u8,
+            bytes_length: usize,
+            name: *const u8,
+            name_length: usize,
+            layer: i32,
+            scratch: *mut i32,
+            corners: *mut i32,
+            corners_length: usize,
+            result: *mut u64,
+        ) -> u32;
     }
 }
 
@@ -86,6 +97,32 @@ pub fn backward(rects: &[i32], points: &mut [i32]) -> Result<usize, Refused> {
     let mut result = [0; 3];
     // SAFETY: as above.
     let number = unsafe { face::panbuckle_backward(rects.as_ptr(), rects.len(), points.as_mut_ptr(), points.len(), result.as_mut_ptr()) };
+    let [_, place, count] = result;
+    if number == 0 {
+        Ok(count as usize)
+    } else {
+        Err(Refused { number, place })
+    }
+}
+
+/// How many corners the layer's boundaries have in the structure of the name; they are written to the start of `corners`, ready for forward.
+pub fn read_gdsii(bytes: &[u8], name: &[u8], layer: i32, scratch: &mut [i32; 8192], corners: &mut [i32]) -> Result<usize, Refused> {
+    assert_eq!(version(), VERSION);
+    let mut result = [0; 3];
+    // SAFETY: as above.
+    let number = unsafe {
+        face::panbuckle_read_gdsii(
+            bytes.as_ptr(),
+            bytes.len(),
+            name.as_ptr(),
+            name.len(),
+            layer,
+            scratch.as_mut_ptr(),
+            corners.as_mut_ptr(),
+            corners.len(),
+            result.as_mut_ptr(),
+        )
+    };
     let [_, place, count] = result;
     if number == 0 {
         Ok(count as usize)

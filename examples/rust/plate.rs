@@ -1,8 +1,8 @@
-//! One plate, two bars that cross: forward, a step at a time, and back.
+//! One plate, two bars that cross: forward, a step at a time, and back; and a stream file, whose corners go forward.
 
 mod panbuckle;
 
-use panbuckle::{backward, forward, step, Refused, Sums};
+use panbuckle::{backward, forward, read_gdsii, step, Refused, Sums};
 
 fn main() {
     let points = [3, 1, 5, 1, 3, 5, 5, 5, 0, 2, 10, 2, 0, 4, 10, 4];
@@ -36,4 +36,18 @@ fn main() {
     assert_eq!(rects[..8], [0, 0, 1, 1, 1, 1, 1, 1]);
     assert_eq!(forward(&[], &mut [], &mut []), Ok(Sums { count: 0, area: 0, edge: 0 }));
     println!("{:?}", rects);
+    stream();
+}
+
+fn stream() {
+    let bytes = include_bytes!("../pads.gds");
+    let (mut scratch, mut corners, mut list) = ([7; 8192], [7; 64], [0; 64]);
+    assert_eq!(read_gdsii(bytes, b"PADS", 1, &mut scratch, &mut corners), Ok(28));
+    assert_eq!(scratch, [0; 8192]);
+    assert_eq!(corners[56..], [7; 8]);
+    assert_eq!(forward(&corners[..56], &mut scratch, &mut list), Ok(Sums { count: 8, area: 6600, edge: 780 }));
+    assert_eq!(list[..4], [0, 0, 60, 20]);
+    assert_eq!(read_gdsii(bytes, b"PADS", 1, &mut scratch, &mut []), Err(Refused { number: 8, place: 28 }));
+    assert_eq!(read_gdsii(bytes, b"NONE", 1, &mut scratch, &mut []), Err(Refused { number: 16, place: 0 }));
+    assert_eq!(read_gdsii(&[], &[], 1, &mut scratch, &mut []), Err(Refused { number: 12, place: 0 }));
 }

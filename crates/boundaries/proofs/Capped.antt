@@ -11,8 +11,13 @@ use Rattle.plane.specs.Lists.{sum}
 use Rattle.plane.specs.Words.{marks, cells, mostCells}
 use Rattle.plane.proofs.Grid.{cells-most}
 use Rattle.boundaries.specs.Boundary.{handedOn, overlaps}
-use Rattle.boundaries.specs.Inner.{addCapped, cornersArea, areasFrom}
-use Rattle.boundaries.proofs.Handed.{Shapes, overlaps-by-area}
+use Rattle.boundaries.specs.Inner.{addCapped}
+use Rattle.boundaries.proofs.Handed.{cornersArea, Shapes, overlaps-by-area}
+
+-- the areas of boundaries added to a sum, in file order
+unfoldable pub areasFrom : (s : ℕ) → List (List Point) → ℕ
+areasFrom s [] = s
+areasFrom s (vs ∷ bs) = areasFrom (addCapped s (cornersArea vs)) bs
 
 -- a number that is not over the cells of the range is below the capped sum just if it is below the whole one
 capped-tells : (n s : ℕ) (bs : List (List Point)) → n ≤ mostCells → ltb n (areasFrom s bs) ≡ ltb n (s + sum cornersArea bs)

@@ -1,7 +1,7 @@
 -- The corners handed on mark exactly the cells that the boundaries mark, and OVERLAP is a matter of areas.
 use mathlib.Core.Path.{_≡_, refl, sym, ap, ap₂, fun-ext, _∙_}
 use mathlib.Core.Logic.{_↔_}
-use Prim.Native.Nat.{_≤_}
+use Prim.Native.Nat.{ℕ, _≤_}
 use native.Mathlib.Omega.{arith}
 use mathlib.Core.Bool.{Bool, true, false, xor}
 use mathlib.Core.List.{List, [], _∷_, List·Memᴰ as In, List·Memᴰ·head as head, List·Memᴰ·tail as tail, List·Memᴰ·not-nil as not-nil, Memᴰ·append-left as append-left, Memᴰ·append-right as append-right}
@@ -17,11 +17,14 @@ use Rattle.plane.proofs.Parity.{odd-append, odd-none, once-odd}
 use Rattle.plane.proofs.Grid.{CellInRange}
 use Rattle.plane.proofs.Edge.{marked-inside}
 use Rattle.boundaries.specs.Boundary.{slanted, isOpen, inside, boundaryCorners, handedOn, markers, overlaps}
-use Rattle.boundaries.specs.Inner.{cornersArea}
 use Rattle.boundaries.proofs.Rays.{corners-mark, corners-rows, corners-columns, corners-balanced}
 use Rattle.boundaries.proofs.Areas.{areas-tell, areas-apart, areas-find}
 
 -- ---- Boundaries that are read
+
+-- how many cells the corners of a boundary mark
+abbrev pub cornersArea : List Point → ℕ
+cornersArea vs = cells (marks (boundaryCorners vs))
 
 -- closed and not slanted, each of them
 pub record Shapes (bs : List (List Point)) : Type 0 where

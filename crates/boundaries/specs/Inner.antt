@@ -5,8 +5,8 @@ use mathlib.Core.List.{List, [], _∷_}
 use lib.Dec.{leb}
 use Rattle.plane.specs.declared.Point.{Point}
 use Rattle.plane.specs.Lists.{keep}
-use Rattle.plane.specs.Words.{same, marks, cells, mostCells}
-use Rattle.boundaries.specs.Boundary.{edge, vertical, boundaryCorners}
+use Rattle.plane.specs.Words.{same, mostCells}
+use Rattle.boundaries.specs.Boundary.{edge, vertical}
 
 -- ---- Corners by the directions of edges
 
@@ -28,12 +28,3 @@ lastVertical d p (q ∷ vs) = lastVertical (cond (same p q) d (vertical (edge p 
 -- an area is added only while the sum is at most the cells of the range: so the sum fits 64 bits
 unfoldable pub addCapped : (s area : ℕ) → ℕ
 addCapped s area = cond (leb s mostCells) (s + area) s
-
--- how many cells the corners of a boundary mark
-abbrev pub cornersArea : List Point → ℕ
-cornersArea vs = cells (marks (boundaryCorners vs))
-
--- the areas of boundaries added to a sum, in file order
-unfoldable pub areasFrom : (s : ℕ) → List (List Point) → ℕ
-areasFrom s [] = s
-areasFrom s (vs ∷ bs) = areasFrom (addCapped s (cornersArea vs)) bs

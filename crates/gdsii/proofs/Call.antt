@@ -21,10 +21,10 @@ use Rattle.entry.proofs.Entry.{refused-done}
 use Rattle.rule.specs.Rows.{MANY, RANGE, ROW, COLUMN, ROOM, balanceChecks, fewThen}
 use Rattle.rule.proofs.Rows.{many-clear, balance-clear, balance-accepted}
 use Rattle.boundaries.specs.Boundary.{boundaryCorners, handedOn, overlaps}
-use Rattle.boundaries.specs.Inner.{addCapped, cornersArea, areasFrom}
+use Rattle.boundaries.specs.Inner.{addCapped}
 use Rattle.boundaries.proofs.Rays.{corners-balanced}
-use Rattle.boundaries.proofs.Handed.{Shapes, shapes-none, shapes-with, handed-balanced}
-use Rattle.boundaries.proofs.Capped.{overlaps-capped}
+use Rattle.boundaries.proofs.Handed.{cornersArea, Shapes, shapes-none, shapes-with, handed-balanced}
+use Rattle.boundaries.proofs.Capped.{areasFrom, overlaps-capped}
 use Rattle.records.specs.Records.{headSize}
 use Rattle.gdsii.specs.declared.Cursor.{Cursor}
 use Rattle.gdsii.specs.declared.Judged.{Judged}

@@ -13,6 +13,7 @@ use borrow.Author.Tests.{ltb-false, le-ltb}
 use Rattle.plane.specs.declared.Point.{Point}
 use Rattle.plane.specs.Lists.{bit, any, Starts}
 use Rattle.plane.specs.Words.{mostPoints, origin, flatPoints, pointInRange, pointAt, marks}
+use Rattle.plane.proofs.Bools.{granted}
 use Rattle.plane.proofs.Arrays.{length-flat-points}
 use Rattle.plane.proofs.Places.{all-pass}
 use Rattle.plane.proofs.Outcomes.{one-outcome}
@@ -28,7 +29,6 @@ use Rattle.rule.specs.BackwardCall.{pointsListed}
 use Rattle.rule.proofs.Rows.{many-clear, room-clear}
 use Rattle.boundaries.specs.Boundary.{inside, handedOn, markers, overlaps}
 use Rattle.boundaries.proofs.Handed.{Shapes, handed-exactly, handed-once, overlaps-exactly}
-use Rattle.records.proofs.Heads.{granted}
 use Rattle.gdsii.specs.Walk.{Outcome, stopped, walked, readAll}
 use Rattle.gdsii.specs.Call.{faultIn, foundIn, boundariesIn, cornersIn, readChecks, faultNumbers, ReadAccepted, Overlapping, ReadDone}
 use Rattle.gdsii.proofs.Stream.{fault-number}

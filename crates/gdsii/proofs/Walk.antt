@@ -4,8 +4,8 @@ use Prim.Native.Nat.{ℕ, zero, suc, _+_, _-_, _*_, _/_, _≤_, _<_}
 use native.Mathlib.Omega.{arith}
 use mathlib.Core.Bool.{Bool, _&&_}
 use mathlib.Core.List.{List, [], _∷_}
-use lib.ListN.{length, take, drop, length-drop, drop-of-length-le}
-use lib.Seq.{take-all, drop-cons, drop-drop}
+use lib.ListN.{length, drop, length-drop, drop-of-length-le}
+use lib.Seq.{drop-cons, drop-drop}
 use lib.IntN.{ℤ}
 use lib.Dec.{eqb}
 use Rattle.plane.specs.declared.Point.{Point}
@@ -24,10 +24,6 @@ use Rattle.gdsii.specs.declared.Shape.the-variants.{Fine}
 use Rattle.gdsii.specs.Walk.{vertexSize, vertices, moved, byShape, act, byRecord, judge, boundaryXY, stopped, walked, before, onward, readFrom}
 use Rattle.gdsii.specs.Inner.{shapeOf, Ready}
 use Rattle.gdsii.proofs.Vertices.{length-vertices, vertices-drop}
-
--- the part of a stream from a place on
-pub part-rest : (t : List ℕ) (i : ℕ) → take (length t - i) (drop i t) ≡ drop i t
-part-rest t i = take-all (length t - i) (drop i t) (omega (arith, length-drop i t))
 
 -- ---- Where a record leaves the cursor
 

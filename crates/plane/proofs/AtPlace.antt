@@ -1,11 +1,11 @@
--- Items put over an array's from a place on.
-use Prim.Native.Nat.{ℕ, _+_, _≤_, _<_}
+-- Items put over an array's from a place on, and the part from there on.
+use Prim.Native.Nat.{ℕ, _+_, _-_, _≤_, _<_}
 use native.Mathlib.Omega.{arith}
 use mathlib.Core.Path.{_≡_, refl, sym, _∙_}
 use mathlib.Core.Bool.{Bool, true, false, cond}
 use mathlib.Core.List.{List, _++_, append-assoc}
 use lib.ListN.{length, take, drop, length-append, length-drop, take-append-drop}
-use lib.Seq.{length-take-le, take-at, drop-at, drop-append-add, drop-drop, take-append-seam, sets, sets-eq}
+use lib.Seq.{length-take-le, take-all, take-at, drop-at, drop-append-add, drop-drop, take-append-seam, sets, sets-eq}
 use lib.Dec.{leb}
 use borrow.Author.Tests.{le-leb, lt-leb, leb-true}
 use Rattle.plane.specs.Lists.{atStart, pasted, putAt}
@@ -70,3 +70,7 @@ module _ {A : Type 0} where
       go : (t : Bool) → leb (at + length items) (length before) ≡ t → length (cond t (pasted before at items) before) ≡ length before
       go true e = pasted-length before at items (leb-true (at + length items) (length before) e)
       go false e = refl
+
+  -- the part of an array from a place on is what comes from there
+  pub part-rest : (a : List A) (i : ℕ) → take (length a - i) (drop i a) ≡ drop i a
+  part-rest a i = take-all (length a - i) (drop i a) (omega (arith, length-drop i a))

@@ -190,3 +190,12 @@ cond-le true true s h = omega arith
 cond-le true false s h = absurd (false≢true (s refl))
 cond-le false true s h = omega arith
 cond-le false false s h = h
+
+-- a test from its denial
+pub denied : (b : Bool) → not b ≡ true → b ≡ false
+denied true e = sym e
+denied false e = refl
+
+pub granted : (b : Bool) → not b ≡ false → b ≡ true
+granted true e = refl
+granted false e = sym e

@@ -8,7 +8,7 @@ use mathlib.Core.Bool.{Bool, true, false, cond, true≢false}
 use mathlib.Core.List.{List, [], _∷_, _++_}
 use mathlib.Core.Option.{Option, none, some, Option·none-ne-some as none-ne-some}
 use lib.ListN.{length, getD, take, drop, length-drop, drop-of-length-le}
-use lib.Seq.{take-all, take-suc, drop-cons, drop-drop, getD-drop}
+use lib.Seq.{take-suc, drop-cons, drop-drop, getD-drop}
 use lib.Dec.{eqb, ltb, leb·suc-suc}
 use borrow.Author.Tests.{lt-ltb, eq-eqb, ne-eqb, ltb-true}
 use Rattle.plane.specs.declared.Point.{Point}
@@ -57,10 +57,6 @@ module _ (c : ℕ) where
     pub before-next : (getD t i 0 ≡ c → ⊥) → length (beforeFirst c (drop i t)) ≡ suc (length (beforeFirst c (drop (i + 1) t)))
     unfolding beforeFirst
     before-next n = rw (add-one i, drop-cons t i 0 h, ne-eqb _ _ n)
-
--- the part of a text from a place on is what comes from there
-pub part-rest : (t : List ℕ) (i : ℕ) → take (length t - i) (drop i t) ≡ drop i t
-part-rest t i = take-all (length t - i) (drop i t) (omega (arith, length-drop i t))
 
 -- ---- The first line
 

@@ -18,15 +18,6 @@ use Rattle.records.specs.declared.Record.the-variants.{Refused, Good}
 use Rattle.records.specs.Format.{ENDLIB, STRNAME, ENDSTR, PATH, AREF, LAYER, XY, table, fitsLength, fitsIn, fits, follow}
 use Rattle.records.specs.Records.{TRUNCATED, RECORD, headSize, sizeOf, headOf, known, treatmentOf, byHead, recordOf}
 
--- a test from its denial
-pub denied : (b : Bool) → not b ≡ true → b ≡ false
-denied true e = sym e
-denied false e = refl
-
-pub granted : (b : Bool) → not b ≡ false → b ≡ true
-granted true e = refl
-granted false e = sym e
-
 module _ (t : List ℕ) where
   pub head-short : length t < 4 → Cut ≡ headOf t
   unfolding headOf

@@ -4,7 +4,8 @@ use mathlib.Core.Path.{sym, ap, _∙_}
 use lib.ListN.{length, length-drop}
 use Rattle.gdsii.specs.Walk.{judge}
 use Rattle.records.proofs.Heads.{good-sized}
-use Rattle.gdsii.proofs.Walk.{part-rest, judge-unread, judge-good}
+use Rattle.plane.proofs.AtPlace.{part-rest}
+use Rattle.gdsii.proofs.Walk.{judge-unread, judge-good}
 use borrow.Author.Needs.{needs}
 use Rattle.gdsii.proofs.judge_at.Statement.{statement}
 use Rattle.gdsii.proofs.judge_at.Tie as tie

@@ -5,9 +5,9 @@ use mathlib.Core.Path.{_≡_, sym, _∙_}
 use lib.ListN.{length, take}
 use borrow.Author.Needs.{needs}
 use Rattle.plane.specs.Words.{flatPoints}
+use Rattle.plane.proofs.Bools.{denied, granted}
 use Rattle.plane.proofs.Arrays.{length-flat-points, points-flat}
 use Rattle.boundaries.specs.Boundary.{handedOn}
-use Rattle.records.proofs.Heads.{denied, granted}
 use Rattle.gdsii.specs.Walk.{readAll}
 use Rattle.gdsii.specs.Call.{scratchSize}
 use Rattle.gdsii.proofs.Gathering.{Ended, whole-says}

@@ -14,7 +14,8 @@ use Rattle.numerals.specs.Numerals.{numberOf, numeral}
 use Rattle.reading.specs.declared.Parsed.{Parsed}
 use Rattle.reading.specs.Lines.{space, beforeFirst, afterFirst, pointFrom}
 use Rattle.reading.specs.Inner.{readAs, parsed}
-use Rattle.reading.proofs.Lines.{take-before, drop-before, after-none, part-rest}
+use Rattle.plane.proofs.AtPlace.{part-rest}
+use Rattle.reading.proofs.Lines.{take-before, drop-before, after-none}
 use Rattle.reading.proofs.parse.Statement.{statement}
 use Rattle.reading.proofs.parse.Tie as tie
 

@@ -16,7 +16,8 @@ use Rattle.reading.specs.declared.Parsed.the-variants.{Good, None}
 use Rattle.reading.specs.declared.LineRead.the-variants.{Read, Unread}
 use Rattle.reading.specs.Lines.{newline, space, beforeFirst, afterFirst, pointFrom, linePoint}
 use Rattle.reading.specs.Inner.{parsed, lineSays, nextLine, lineFrom}
-use Rattle.reading.proofs.Lines.{firstLine, first-line, take-before, part-rest}
+use Rattle.plane.proofs.AtPlace.{part-rest}
+use Rattle.reading.proofs.Lines.{firstLine, first-line, take-before}
 use Rattle.reading.proofs.read_line.Statement.{statement}
 use Rattle.reading.proofs.read_line.Tie as tie
 

@@ -1,7 +1,8 @@
 -- `records::record_of` meets its contract.
 use mathlib.Core.Path.{sym, _∙_}
 use borrow.Author.Needs.{needs}
-use Rattle.records.proofs.Heads.{denied, granted, whole-size, record-cut, record-bad, record-unfit, record-misplaced, record-good}
+use Rattle.plane.proofs.Bools.{denied, granted}
+use Rattle.records.proofs.Heads.{whole-size, record-cut, record-bad, record-unfit, record-misplaced, record-good}
 use Rattle.records.proofs.record_of.Statement.{statement}
 use Rattle.records.proofs.record_of.Tie as tie
 

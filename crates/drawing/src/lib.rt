@@ -28,7 +28,7 @@ const BLANK: u8 = 64;
 // ---- Where things stand
 
 // Four ends: the least and the greatest x and y of some points, each counted from -2^31.
-#[derive(Drop)]
+#[derive(Clone, Copy)]
 struct Frame {
     left: u64,
     right: u64,
@@ -37,7 +37,7 @@ struct Frame {
 }
 
 // How the plane is shown: the corner and the longer side of the frame, and the picture's width and height.
-#[derive(Drop)]
+#[derive(Clone, Copy)]
 struct View {
     left: u64,
     bottom: u64,
@@ -47,7 +47,7 @@ struct View {
 }
 
 // A rectangle in the picture, x to the right and y downwards.
-#[derive(Drop)]
+#[derive(Clone, Copy)]
 struct Box {
     x: u64,
     y: u64,

@@ -45,7 +45,7 @@ pub const OVERLAP: u32 = 17;
 // ---- The answer of one that counts
 
 // The count is of points, of rectangles, of lines or of bytes. On a refusal it is 0.
-#[derive(Drop)]
+#[derive(Clone, Copy)]
 pub struct Counted {
     pub answer: u32,
     pub place: u64,

@@ -25,7 +25,7 @@ use records::{HEAD, Record, Treatment, record_of, treatment_of};
 
 // A file place, a row of the order, whether the structure was found, whether it is the one that is being read, and whether the element's layer is the
 // one asked for.
-#[derive(Drop)]
+#[derive(Clone, Copy)]
 struct Cursor {
     at: usize,
     row: u8,
@@ -35,13 +35,13 @@ struct Cursor {
 }
 
 // The layer asked for: any number, though a layer in the stream has 16 bits.
-#[derive(Drop)]
+#[derive(Clone, Copy)]
 struct Wanted {
     layer: i32,
 }
 
 // What the record at a cursor is: refused, the end, passed, or a boundary of so many vertices that is read.
-#[derive(Drop)]
+#[derive(Clone, Copy)]
 enum Judged {
     Refused { answer: u32 },
     Over { found: bool },
@@ -110,7 +110,7 @@ fn is_slanted(p: Point, q: Point) -> bool
 }
 
 // What the vertices of a boundary are.
-#[derive(Drop)]
+#[derive(Clone, Copy)]
 enum Shape {
     Open,
     Slanted,
@@ -256,7 +256,7 @@ fn judge_at(bytes: &[u8], name: &[u8], wanted: Wanted, c: Cursor) -> Judged
 // ---- The next boundary
 
 // What the walk comes to next: a refusal, the end, or a boundary that is read: the place of its vertices, their count, and the cursor after it.
-#[derive(Drop)]
+#[derive(Clone, Copy)]
 enum Found {
     Halted {
         answer: u32,
@@ -403,7 +403,7 @@ fn put_corners(bytes: &[u8], from: usize, count: usize, a: &mut [i32], n: usize)
 
 // What the walk gathers: a refusal with its place; or whether the structure was found, how many corners its boundaries have, and how many cells each
 // of them marks, added up.
-#[derive(Drop)]
+#[derive(Clone, Copy)]
 enum Gathered {
     Stopped {
         answer: u32,

@@ -5,7 +5,7 @@ ghost use Rattle.numerals.specs.Numerals.{minus, is_digit, value_of, as_plain, a
 ghost use Rattle.numerals.specs.Inner.{starts_with, found, value_in};
 
 // What bytes read as: a number of 32 bits with a sign, or none.
-#[derive(Drop)]
+#[derive(Clone, Copy)]
 pub enum Numeral {
     Number { value: i32 },
     Bad,
@@ -16,7 +16,7 @@ const MINUS: u8 = 45;
 // ---- Reading
 
 // The value of digits, if they are one to ten.
-#[derive(Drop)]
+#[derive(Clone, Copy)]
 enum Digits {
     Value { value: u64 },
     Bad,

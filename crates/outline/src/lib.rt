@@ -145,7 +145,7 @@ const MOST_KEYS: usize = 1536;
 const KEPT_KEYS: usize = MOST_KEYS / 2;
 
 // How many keys are in the array, and the key that they are below.
-#[derive(Drop)]
+#[derive(Clone, Copy)]
 struct Batch {
     count: usize,
     end: u64,

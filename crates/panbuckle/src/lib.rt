@@ -101,7 +101,7 @@ fn toggled(a: &mut [i32], n: usize, p: Point) -> usize
 // ---- K, L and the width
 
 // What a scan of the points looks for: any point, one right of k on its row, or one above k from its column to before l's.
-#[derive(Drop)]
+#[derive(Clone, Copy)]
 enum Seek {
     Any,
     RightOf { k: Point },
@@ -151,7 +151,7 @@ fn first_of(a: &[i32], n: usize, what: Seek, none: Point) -> Point
 // ---- The stop row
 
 // The rows in a table, a point for each: how many, and the end that they are below.
-#[derive(Drop)]
+#[derive(Clone, Copy)]
 struct OddRows {
     count: usize,
     end: Point,

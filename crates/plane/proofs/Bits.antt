@@ -31,7 +31,7 @@ eq-bits (negsuc a) (negsuc b) p q = eqb-iff (2 ^ 32 - suc a) (2 ^ 32 - suc b) a 
 
 -- the number of a number's bits
 pub back : (a : ℤ) → mag a < 2 ^ 31 → to_z w32 (of_z w32 a) ≡ a
-back a p = to_z-of_z (record { sfits = p })
+back a p = to_z-of_z {w = w32} (record { sfits = p })
 
 -- ---- 64 bits
 
@@ -45,7 +45,7 @@ sum-widened a b p q = record { sfits = omega (arith, mag-add a b) }
 
 -- the number of a number's 64 bits
 pub back-wide : (a : ℤ) → mag a < 2 ^ 63 → to_z w64 (of_z w64 a) ≡ a
-back-wide a p = to_z-of_z (record { sfits = p })
+back-wide a p = to_z-of_z {w = w64} (record { sfits = p })
 
 -- ---- Sides
 

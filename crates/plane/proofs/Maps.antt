@@ -36,11 +36,13 @@ module _ {A B : Type 0} where
 
   -- what holds of each image holds of all
   pub map-all : (P : B → Type 0) (f : A → B) (l : List A) → ((a : A) → In a l → P (f a)) → (b : B) → In b (map f l) → P b
+  map-all P f [] h b m = elim m [ ]
   map-all P f (a ∷ l) h b (head e) = subst P (sym e) (h a (head refl))
   map-all P f (a ∷ l) h b (tail m) = map-all P f l (λ c n. h c (tail n)) b m
 
   -- an element's image is one of the images
   pub map-in : (f : A → B) {a : A} {l : List A} → In a l → In (f a) (map f l)
+  map-in f {l = []} m = elim m [ ]
   map-in f {l = b ∷ l} (head e) = head (ap f e)
   map-in f {l = b ∷ l} (tail m) = tail (map-in f m)
 

@@ -34,7 +34,7 @@ module _ {A : Type 0} where
   in-at (a ∷ l) (suc i) d h = tail (in-at l i d (omega arith))
 
   -- an element stands at some place
-  at_in : {l : List A} {a : A} (d : A) → In a l → (i : ℕ) × (i < length l) × (get_or l i d ≡ a)
+  at_in : {a : A} {l : List A} (d : A) → In a l → (i : ℕ) × (i < length l) × (get_or l i d ≡ a)
   at_in d (head e) = (0, omega arith, sym e)
   at_in d (tail m) = let r = at_in d m in (suc r.0, omega arith, r.2)
 

@@ -172,7 +172,7 @@ turn-from {m = m} h (next {q = q} g t) = next {n = m} {q = q} (omega arith) t
 turn-only : {ps : List Point} (f : Point → Bool) {n : ℕ} (qs : List Point) → InTurn ps n qs → InTurn ps n (only f qs)
 unfolding only
 turn-only f [] none = none
-turn-only {ps} f {n} (q ∷ qs) (next h t) = go (f q) (turn-only f qs t)
+turn-only {ps} f {n} (q ∷ qs) (next h t) = go (f q) (turn-only f {n = suc (first_at q ps)} qs t)
   where
     go : (b : Bool) → InTurn ps (suc (first_at q ps)) (only f qs) → InTurn ps n (keep b q (only f qs))
     go true ih = next h ih
@@ -182,7 +182,7 @@ turn-only {ps} f {n} (q ∷ qs) (next h t) = go (f q) (turn-only f qs t)
 turn-later : {ps : List Point} (p : Point) {n : ℕ} (qs : List Point) → InTurn ps n qs → InTurn (p ∷ ps) (suc n) (only (λ q. not (same p q)) qs)
 unfolding only first_at
 turn-later p [] none = none
-turn-later {ps} p {n} (q ∷ qs) (next h t) = go (same p q) refl (turn-later p qs t)
+turn-later {ps} p {n} (q ∷ qs) (next h t) = go (same p q) refl (turn-later p {n = suc (first_at q ps)} qs t)
   where
     go : (b : Bool) → same p q ≡ b → InTurn (p ∷ ps) (suc (suc (first_at q ps))) (only (λ r. not (same p r)) qs) → InTurn (p ∷ ps) (suc n) (keep (not b) q (only (λ r. not (same p r)) qs))
     go true e ih = turn-from (omega arith) ih
@@ -201,6 +201,7 @@ remaining-turn ps = turn-only (λ p. odd (same p) ps) (firsts ps) (firsts-turn p
 -- a listed point is told by its first place
 first-tells : {p q : Point} {ps : List Point} → In p ps → In q ps → first_at p ps ≡ first_at q ps → p ≡ q
 unfolding first_at
+first-tells {ps = []} m n e = elim m [ ]
 first-tells {p} {q} {ps = r ∷ ps} m n e = go (same p r) refl (same q r) refl m n e (λ i j d. first-tells i j d)
   where
     go : (b : Bool) → same p r ≡ b → (c : Bool) → same q r ≡ c → In p (r ∷ ps) → In q (r ∷ ps) → cond b 0 (suc (first_at p ps)) ≡ cond c 0 (suc (first_at q ps)) → (In p ps → In q ps → first_at p ps ≡ first_at q ps → p ≡ q) → p ≡ q
@@ -213,6 +214,7 @@ first-tells {p} {q} {ps = r ∷ ps} m n e = go (same p r) refl (same q r) refl m
 
 -- every point in turn from n on is first listed at n or later
 turn-least : {ps : List Point} {n : ℕ} {qs : List Point} → InTurn ps n qs → {q : Point} → In q qs → n ≤ first_at q ps
+turn-least none m = elim m [ ]
 turn-least {ps} (next {q = r} h t) {q} (head e) = let d : first_at q ps ≡ first_at r ps = ap (λ p. first_at p ps) e in omega arith
 turn-least (next h t) (tail m) = let g = turn-least t m in omega arith
 
@@ -223,7 +225,7 @@ turn-unique ps [] (r ∷ rs) none t l f g = absurd (not-nil (g r (head refl)))
 turn-unique ps (q ∷ qs) [] t none l f g = absurd (not-nil (f q (head refl)))
 turn-unique ps (q ∷ qs) (r ∷ rs) (next h t) (next k u) l f g =
     let e : q ≡ r = first-tells (l q (head refl)) (l r (g r (head refl))) (omega (arith, turn-first t (g r (head refl)), turn-first u (f q (head refl)))) in
-    ap₂ ◌∷◌ e (turn-unique ps qs rs t u (λ p i. l p (tail i)) (λ p i. rest e t u p i (f p (tail i))) (λ p i. rest (sym e) u t p i (g p (tail i))))
+    ap₂ ◌∷◌ e (turn-unique ps {m = suc (first_at q ps)} {n = suc (first_at r ps)} qs rs t u (λ p i. l p (tail i)) (λ p i. rest e t u p i (f p (tail i))) (λ p i. rest (sym e) u t p i (g p (tail i))))
   where
     turn-first : {p : Point} {ss : List Point} → InTurn ps (suc (first_at p ps)) ss → {s : Point} → In s (p ∷ ss) → first_at p ps ≤ first_at s ps
     turn-first {p} v {s} (head d) = let z : first_at s ps ≡ first_at p ps = ap (λ o. first_at o ps) d in omega arith

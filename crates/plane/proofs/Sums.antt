@@ -74,9 +74,10 @@ module _ {A : Type 0} where
       omega (arith, sum-set w l i v d h, sum-set w (set l i v) j (get_or l i d) d (rw length-set g), ap w (last_set l i j d h))
 
   -- an element weighs at most the sum
-  pub sum-in : (w : A → ℕ) {l : List A} {a : A} → In a l → w a ≤ sum w l
+  pub sum-in : (w : A → ℕ) {a : A} {l : List A} → In a l → w a ≤ sum w l
   unfolding sum
-  sum-in w {l = b ∷ l} {a} (head e) = let c : w a ≡ w b = ap w e in omega arith
+  sum-in w {l = []} m = elim m [ ]
+  sum-in w {a} {l = b ∷ l} (head e) = let c : w a ≡ w b = ap w e in omega arith
   sum-in w {l = b ∷ l} (tail m) = let h = sum-in w m in omega arith
 
   -- with at most c for each
@@ -126,8 +127,9 @@ module _ {A : Type 0} where
       go ih false h e = let r = ih e in (r.0, tail r.1, r.2)
 
   -- where an element passes, some does
-  pub any-in : (f : A → Bool) {l : List A} {a : A} → In a l → f a ≡ true → any f l ≡ true
+  pub any-in : (f : A → Bool) {a : A} {l : List A} → In a l → f a ≡ true → any f l ≡ true
   unfolding any
+  any-in f {l = []} m h = elim m [ ]
   any-in f {l = b ∷ l} (head e) h = rw (← e, h)
   any-in f {l = b ∷ l} (tail m) h = or_right (f b) _ (any-in f m h)
 
@@ -186,8 +188,9 @@ module _ {A : Type 0} where
   count-length f (a ∷ l) = cond-le (f a) true (λ _. refl) (count-length f l)
 
   -- a wider test that some element tells apart counts more
-  pub count_less : (f g : A → Bool) {l : List A} {a : A} → ((b : A) → f b ≡ true → g b ≡ true) → In a l → f a ≡ false → g a ≡ true → count f l < count g l
+  pub count_less : (f g : A → Bool) {a : A} {l : List A} → ((b : A) → f b ≡ true → g b ≡ true) → In a l → f a ≡ false → g a ≡ true → count f l < count g l
   unfolding count
+  count_less f g {l = []} s m h k = elim m [ ]
   count_less f g {l = b ∷ l} s (head e) h k = let i = count-mono f g l (λ b m. s b) in rw (← e, h, k) (omega arith)
   count_less f g {l = b ∷ l} s (tail m) h k = go (f b) (g b) (s b) (count_less f g s m h k)
     where
@@ -212,6 +215,7 @@ module _ {A : Type 0} where
   -- what passes is an element
   pub in-only : (f : A → Bool) (l : List A) {a : A} → In a (only f l) → In a l
   unfolding only
+  in-only f [] m = elim m [ ]
   in-only f (b ∷ l) m = go (in-only f l) (f b) m
     where
       go : {a : A} → (In a (only f l) → In a l) → (t : Bool) → In a (keep t b (only f l)) → In a (b ∷ l)
@@ -222,6 +226,7 @@ module _ {A : Type 0} where
   -- and passes
   pub only-passes : (f : A → Bool) (l : List A) {a : A} → In a (only f l) → f a ≡ true
   unfolding only
+  only-passes f [] m = elim m [ ]
   only-passes f (b ∷ l) m = go (only-passes f l) (f b) refl m
     where
       go : {a : A} → (In a (only f l) → f a ≡ true) → (t : Bool) → f b ≡ t → In a (keep t b (only f l)) → f a ≡ true

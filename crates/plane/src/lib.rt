@@ -4,14 +4,14 @@ ghost use Rattle.plane.specs.Words.{origin, same, before, points_of, point_at, r
 ghost use Rattle.plane.specs.Keys.{raised, lowered, row_step, key_of, point_of};
 
 // A point of the plane.
-#[derive(Drop)]
+#[derive(Clone, Copy)]
 pub struct Point {
     pub x: i32,
     pub y: i32,
 }
 
 // A rectangle: its lower left corner (x, y), its width w and its height h.
-#[derive(Drop)]
+#[derive(Clone, Copy)]
 pub struct Rect {
     pub x: i32,
     pub y: i32,

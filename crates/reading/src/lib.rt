@@ -26,14 +26,14 @@ const SPACE: u8 = 32;
 // ---- A line
 
 // What a line's bytes are: a point, or nothing.
-#[derive(Drop)]
+#[derive(Clone, Copy)]
 enum Parsed {
     Good { point: Point },
     None,
 }
 
 // What stands at a place of a text: a line that is a point, and the place of the next line, or a bad one.
-#[derive(Drop)]
+#[derive(Clone, Copy)]
 enum LineRead {
     Read { point: Point, next: usize },
     Unread,

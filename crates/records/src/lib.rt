@@ -352,7 +352,7 @@ fn fits(kind: u8, byte: u8, length: usize) -> bool
 
 // The end; the name of a structure; a structure's end; a path or a reference; an element's layer; vertices; a type that the format does not use;
 // and all the others, which are skipped.
-#[derive(Drop)]
+#[derive(Clone, Copy)]
 pub enum Treatment {
     End,
     Name,
@@ -384,7 +384,7 @@ pub fn treatment_of(kind: u8) -> Treatment
 // ---- One record
 
 // What bytes begin with: a record that they end in, one with a bad length, or a whole one: its length, its type and its data-type byte.
-#[derive(Drop)]
+#[derive(Clone, Copy)]
 enum Head {
     Cut,
     Bad,
@@ -392,7 +392,7 @@ enum Head {
 }
 
 // A record where the format's order stands at a row: refused, or good, with its length, its type and the row that it leads to.
-#[derive(Drop)]
+#[derive(Clone, Copy)]
 pub enum Record {
     Refused { answer: u32 },
     Good { size: usize, kind: u8, next: u8 },

@@ -2,7 +2,7 @@
 use plane::Rect;
 
 // Forward's answer. On a refusal all but answer and place are 0.
-#[derive(Drop)]
+#[derive(Clone, Copy)]
 pub struct ForwardAnswer {
     pub answer: u32,
     pub place: u64,
@@ -12,7 +12,7 @@ pub struct ForwardAnswer {
 }
 
 // A step's answer: a rectangle with the new count of points, or a refusal with its place.
-#[derive(Drop)]
+#[derive(Clone, Copy)]
 pub enum StepAnswer {
     Rectangle { rect: Rect, count: usize },
     Refused { answer: u32, place: u64 },

@@ -35,7 +35,7 @@ const FAR: i32 = 2_000_000_000;
 
 // The number of the next point, of live rectangles passed, the place of the first one ahead, and how many rectangles have begun; the row,
 // and on it the right end of the rectangle that ended last and the left end of one that begins, each FAR where there is none.
-#[derive(Drop)]
+#[derive(Clone, Copy)]
 struct Sweep {
     next: usize,
     passed: usize,
@@ -47,7 +47,7 @@ struct Sweep {
 }
 
 // What a move gives: it goes on; a rectangle of the list is done, with its place; or it is refused, for no point is left.
-#[derive(Drop)]
+#[derive(Clone, Copy)]
 enum Move {
     Onward { at: Sweep },
     Rectangle { rect: Rect, place: usize, at: Sweep },

@@ -31,7 +31,7 @@ pub const MOST_PRINTED: usize = 153679;
 pub const MOST_SAID: usize = 200;
 
 // What the program knows at its end: the answer and its place, the point that it names, and how many bytes were read and printed.
-#[derive(Drop)]
+#[derive(Clone, Copy)]
 pub struct Report {
     pub answer: u32,
     pub place: u64,

@@ -1,7 +1,7 @@
 -- The table of refusals, read exactly: when a check is given, and what the verdict over checks in order says of them, both ways.
 use mathlib.Core.Path.{◌≡◌, refl, sym, subst}
 use mathlib.Core.Logic.{◌↔◌, ◌≢◌}
-use Prim.Native.Nat.{ℕ, ◌+◌, ◌≤◌, ◌<◌}
+use Prim.Native.Nat.{ℕ, ◌≤◌, ◌<◌}
 use native.Mathlib.Omega.{arith}
 use mathlib.Core.Bool.{Bool, true, false, cond}
 use mathlib.Core.List.{List, [], ◌∷◌, ◌++◌}
@@ -276,7 +276,7 @@ last-given [] c n (later h f) = elim f [ ]
 last-given (s ∷ checks) c {k} n (this g) = absurd (number-given (λ m. m ≢ k) n.0 g refl)
 last-given (s ∷ checks) c n (later h f) = let t = last-given checks c n.1 f in (((clear-exactly s).1 h, t.0), t.1)
 
-need-given : {k need room p : ℕ} → Given (needs k need room) k p → (p ≡ need) × (room < p)
+need-given : {k j need room p : ℕ} → Given (needs k need room) j p → (p ≡ need) × (room < p)
 need-given {need = need} {room = room} (by_whole e) = (refl, ltb-true room need e)
 
 -- the last check lacks room, at p, exactly when p is the number needed, the room is less, and enough for p is accepted

@@ -1,5 +1,7 @@
 // What every entry point shares: the numbers of its answers, and the answer of one that counts.
 // What is said of a call is in specs/.
+#![tactic(auto)]
+
 ghost use Rattle.std.specs.Prelude.{◌≡◌};
 ghost use Rattle.entry.specs.Checks.{accepted, refused};
 ghost use Rattle.entry.specs.Entry.{counted};

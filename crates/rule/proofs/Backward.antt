@@ -35,6 +35,7 @@ back-rising rs = in_order-rising (only (odd_corner rs) (corners rs))
 -- a corner of one of the rectangles is one of the corners
 corner-in : {r : Rect} {p : Point} {rs : List Rect} → In r rs → In p (corners_of r) → In p (corners rs)
 unfolding corners
+corner-in {rs = []} n m = elim n [ ]
 corner-in {p = p} {rs = s ∷ rs} (head e) m = Memᴰ.append_left (corners rs) (subst (λ t. In p (corners_of t)) e m)
 corner-in {rs = s ∷ rs} (tail n) m = Memᴰ.append_right (corners_of s) (corner-in n m)
 
@@ -141,6 +142,7 @@ each-corner f r a b c d p (head e) = rw e a
 each-corner f r a b c d p (tail (head e)) = rw e b
 each-corner f r a b c d p (tail (tail (head e))) = rw e c
 each-corner f r a b c d p (tail (tail (tail (head e)))) = rw e d
+each-corner f r a b c d p (tail (tail (tail (tail m)))) = elim m [ ]
 
 -- the corners of a rectangle in range are in range
 pub corner-range : (r : Rect) → rect_in_range r ≡ true → (p : Point) → In p (corners_of r) → point_in_range p ≡ true

@@ -52,6 +52,7 @@ rule-rising ps acc = steps-rising (rule-steps ps acc)
 -- ---- The rectangles
 
 steps-rects : {ps qs : List Point} {rs : List Rect} → Steps ps rs qs → (r : Rect) → In r rs → (flat r ≡ false) × (rect_in_range r ≡ true)
+steps-rects stay r m = elim m [ ]
 steps-rects (more k l m acc c s) r (head e) = rw e (step-solid c, step-in-range c acc)
 steps-rects (more k l m acc c s) r (tail n) = steps-rects s r n
 

@@ -19,7 +19,7 @@ use Rattle.plane.proofs.Points.{same_refl}
 use Rattle.rule.specs.Rule.{pick_k, pick_l, pick_m, rect_of, toggle, toggle_four, take_rect, step, run, left_after, Picked}
 use Rattle.rule.specs.Rows.{Accepted}
 use Rattle.rule.proofs.Toggle.{odd-four, once-four, sum-four, four-lengths}
-use Rattle.rule.proofs.Picks.{level, right_of, higher, apart, picks}
+use Rattle.rule.proofs.Picks.{level, l-right_of, higher, apart, picks}
 
 -- ---- One step
 
@@ -54,7 +54,7 @@ module _ {ps : List Point} {k l : Point} {m : ℤ} (c : Picked ps k l m) where
   -- each side is at least 1
   pub step-solid : flat (rect_of k l m) ≡ false
   unfolding flat rect_of
-  step-solid = rw (positive k.x l.x (right_of c), positive k.y m (higher c))
+  step-solid = rw (positive k.x l.x (l-right_of c), positive k.y m (higher c))
     where
       positive : (a b : ℤ) → lt_z a b ≡ true → lt_z (b -ℤ a) (pos 1) ≡ false
       positive a b h = omega (order, add-up a (b -ℤ a), far-side a b, pos-up 1)

@@ -1,4 +1,6 @@
 // What forward and a step answer, as document 01 has it; backward answers what the crate `entry` has. What is said of them is in specs/.
+#![tactic(auto)]
+
 use plane::Rect;
 
 // Forward's answer. On a refusal all but answer and place are 0.

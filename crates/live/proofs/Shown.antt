@@ -139,6 +139,7 @@ tops-none-left ps b y ks h = none_left b y (tops ps ks) (tops-all (λ q. q.y ≡
 module _ (k : Live) (later : List Live) where
   -- those before one are left of it
   pub apart-left : (sooner : List Live) → Apart (sooner ++ (k ∷ later)) → (j : Live) → In j sooner → le_z j.right k.left ≡ true
+  apart-left [] _ j m = elim m [ ]
   apart-left (i ∷ sooner) (then-right h a) j (head e) = rw e (h k (append_right sooner (head refl)))
   apart-left (i ∷ sooner) (then-right h a) j (tail m) = apart-left sooner a j m
 
@@ -178,6 +179,7 @@ next-far row (p ∷ rest) over =
 
 -- of the points to come none on the row is left of it
 pub next-first : (row : ℤ) (rest : List Point) → rising rest ≡ true → ((q : Point) → In q rest → le_z row q.y ≡ true) → (q : Point) → In q rest → q.y ≡ row → le_z (next_on row rest) q.x ≡ true
+next-first row [] rises from q m e = elim m [ ]
 next-first row (p ∷ rest) rises from q m e = go (rising-least p rises m) (from p (head refl))
   where
     go : After q p → le_z row p.y ≡ true → le_z (next_on row (p ∷ rest)) q.x ≡ true

@@ -60,6 +60,7 @@ handed-even f bs h = handed-odd f (λ vs. false) bs h ∙ odd-none (λ vs. false
 -- a corner of a boundary is handed on
 handed-in : (bs : List (List Point)) {vs : List Point} {p : Point} → In vs bs → In p (boundary_corners vs) → In p (handed_on bs)
 unfolding handed_on
+handed-in [] i m = elim i [ ]
 handed-in (us ∷ bs) {vs} {p} (head e) m = append_left (handed_on bs) (rw e at m)
 handed-in (us ∷ bs) (tail i) m = append_right (boundary_corners us) (handed-in bs i m)
 

@@ -1,4 +1,6 @@
 // Numbers as text, read and printed. What they read as and how they are printed is in specs/Numerals.antt.
+#![tactic(auto)]
+
 ghost use Rattle.std.specs.Prelude.{◌+◌, ◌-◌, ◌*◌, ◌≤◌, ◌<◌, ◌≡◌, true, ◌∷◌, ◌++◌, length, drop, nat_abs};
 ghost use Rattle.numerals.specs.Bytes.{Put};
 ghost use Rattle.numerals.specs.Numerals.{minus, is_digit, value_of, as_plain, as_negative, number_of, numeral, decimal, signed};

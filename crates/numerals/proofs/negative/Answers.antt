@@ -7,7 +7,6 @@ use lib.Signed.{mag}
 use mir.Syntax.{w64}
 use mir.Val.{to_z}
 use mir.Facts.{to_z_pos}
-use borrow.Author.Rules.{rules}
 use borrow.Author.Tests.{le-leb, lt-leb}
 use Rattle.plane.proofs.Bits.{back, widened, back-wide}
 use Rattle.numerals.proofs.negative.Goals as goal
@@ -22,20 +21,19 @@ minus-fits zero h = omega arith
 minus-fits (suc n) h = omega arith
 
 pub overflow_sub-result : goal.overflow_sub-result
-overflow_sub-result c = let n = c.digits-1.given.0.0 in rw (minus_is n (omega arith)) (widened (neg_ℤ (pos n)) (minus-fits n (omega arith)))
+overflow_sub-result c = let n = c.in-Value.value in rw (minus_is n (omega arith)) (widened (neg_ℤ (pos n)) (minus-fits n (omega arith)))
 
 pub overflow_cast-result-then-value-le2147483648 : goal.overflow_cast-result-then-value-le2147483648
 overflow_cast-result-then-value-le2147483648 c =
-    let n = c.digits-1.given.0.0 in
+    let n = c.in-Value.value in
     let f = minus-fits n (omega arith) in
     rw (minus_is n (omega arith), back-wide (neg_ℤ (pos n)) (omega arith)) (omega arith)
 
 pub returns-then-value-le2147483648 : goal.returns-then-value-le2147483648
 returns-then-value-le2147483648 c =
-    let d = c.digits-1.given in
-    let n = d.0.0 in
+    let n = c.in-Value.value in
     let f = minus-fits n (omega arith) in
-    rw (minus_is n (omega arith), back-wide (neg_ℤ (pos n)) (omega arith), back (neg_ℤ (pos n)) f, d.1, le-leb n 2_147_483_648 (omega arith))
+    rw (minus_is n (omega arith), back-wide (neg_ℤ (pos n)) (omega arith), back (neg_ℤ (pos n)) f, c.in-Value.is, le-leb n 2_147_483_648 (omega arith))
 
 pub returns-else-value-le2147483648 : goal.returns-else-value-le2147483648
-returns-else-value-le2147483648 c = let d = c.digits-1.given in rw (d.1, lt-leb d.0.0 2_147_483_648 (omega arith))
+returns-else-value-le2147483648 c = rw (c.in-Value.is, lt-leb c.in-Value.value 2_147_483_648 (omega arith))

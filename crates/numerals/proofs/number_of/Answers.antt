@@ -13,7 +13,7 @@ use Rattle.numerals.proofs.number_of.Goals as goal
 use Rattle.numerals.proofs.number_of.Goals.{After-starts_with_minus, Then-starts_with_minus}
 
 abbrev bytes : After-starts_with_minus → List ℕ
-bytes m = m.before.before.args.bytes.now
+bytes m = m.args.bytes.now
 
 -- they begin with a minus
 signed : (c : Then-starts_with_minus) → starts_with minus (bytes (goal.at-Then-starts_with_minus c).After-starts_with_minus) ≡ true
@@ -25,7 +25,7 @@ slice_bounds-value_of-start c = let h = starts-length (bytes (goal.at.slice_boun
 pub returns-then-starts_with_minus : goal.returns-then-starts_with_minus
 returns-then-starts_with_minus c =
     let b = bytes (goal.at.returns-then-starts_with_minus c).After-starts_with_minus in
-    c.negative.ensures ∙ rw (c.value_of_lem.ensures, part_to_end b 1, found_back (value_of (drop 1 b))) (ap numeral (sym (number-negative b (signed (goal.at.returns-then-starts_with_minus c).Then-starts_with_minus))))
+    c.negative.ensures ∙ rw (c.value_of.ensures, part_to_end b 1, found_back (value_of (drop 1 b))) (ap numeral (sym (number-negative b (signed (goal.at.returns-then-starts_with_minus c).Then-starts_with_minus))))
 
 pub returns : goal.returns
 returns c =

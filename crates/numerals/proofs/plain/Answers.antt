@@ -2,15 +2,13 @@
 use native.Mathlib.Omega.{arith}
 use mir.Syntax.{w32}
 use mir.Facts.{to_z_pos}
-use borrow.Author.Rules.{rules}
 use borrow.Author.Tests.{le-leb, lt-leb}
 use Rattle.numerals.proofs.plain.Goals as goal
 
 pub returns-then-value-le2147483647 : goal.returns-then-value-le2147483647
 returns-then-value-le2147483647 c =
-    let d = c.digits-1.given in
-    let n = d.0.0 in
-    rw (d.1, le-leb n 2_147_483_647 (omega arith), to_z_pos w32 {n = n} (omega arith))
+    let n = c.in-Value.value in
+    rw (c.in-Value.is, le-leb n 2_147_483_647 (omega arith), to_z_pos w32 {n = n} (omega arith))
 
 pub returns-else-value-le2147483647 : goal.returns-else-value-le2147483647
-returns-else-value-le2147483647 c = let d = c.digits-1.given in rw (d.1, lt-leb d.0.0 2_147_483_647 (omega arith))
+returns-else-value-le2147483647 c = rw (c.in-Value.is, lt-leb c.in-Value.value 2_147_483_647 (omega arith))

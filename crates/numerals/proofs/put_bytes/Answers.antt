@@ -1,11 +1,11 @@
 -- `numerals::put_bytes` meets its contract. The invariant: there is room, the first i bytes are put, and nothing else has changed.
-use Prim.Native.Nat.{◌+◌, ◌-◌}
+use Prim.Native.Nat.{◌+◌}
 use native.Mathlib.Numerals.{add-one}
 use native.Mathlib.Omega.{arith}
 use mathlib.Core.Path.{◌≡◌, refl, ◌∙◌}
 use mathlib.Core.List.{append_assoc}
 use lib.ListN.{length, take, drop, length-set}
-use lib.Seq.{drop-drop, take-length, paste, paste-zero, paste-suc}
+use lib.Seq.{drop-drop, take-length, paste-zero, paste-suc}
 use borrow.Author.Rules.{rules}
 use Rattle.plane.specs.Lists.{pasted}
 use Rattle.numerals.proofs.Putting.{put-made, put-none}

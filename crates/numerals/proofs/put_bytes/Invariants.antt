@@ -1,10 +1,8 @@
 -- `numerals::put_bytes` meets its contract. The invariant: there is room, the first i bytes are put, and nothing else has changed.
 use Prim.Native.Nat.{◌+◌, ◌-◌, ◌≤◌}
-use native.Mathlib.Omega.{arith}
 use mathlib.Core.Path.{◌≡◌}
 use lib.ListN.{length}
 use lib.Seq.{paste}
-use borrow.Author.Rules.{rules}
 use Rattle.numerals.proofs.put_bytes.Given as goal
 
 abbrev pub invariant-loop-i : goal.invariant-loop-i

@@ -6,7 +6,6 @@ use mathlib.Core.Path.{◌≡◌}
 use mathlib.Core.List.{List, [], ◌∷◌, ◌++◌, append-nil}
 use lib.ListN.{length, take}
 use lib.Seq.{take-append_seam}
-use borrow.Author.Rules.{rules}
 use Rattle.numerals.specs.Numerals.{minus, decimal}
 use Rattle.numerals.proofs.Printing.{decimal-length}
 use Rattle.numerals.proofs.put_negative.Goals as goal
@@ -14,7 +13,7 @@ use Rattle.numerals.proofs.put_negative.Goals.{After-spell-k}
 
 -- the number's digits
 abbrev spelt : After-spell-k → List ℕ
-spelt c = decimal c.before.before.before.args.n
+spelt c = decimal c.args.n
 
 -- they are few
 few : (c : After-spell-k) → length (spelt c) ≤ 20
@@ -22,7 +21,7 @@ few c = decimal-length 19 _ (omega arith)
 
 -- what is put are the minus and the digits
 digits : (c : After-spell-k) → take (c.spell-k.result + 1) (minus ∷ (c.spell-k.new.out ++ [])) ≡ minus ∷ spelt c
-digits c = let e = c.spell-k.ensures in rw (append-nil c.spell-k.new.out, add-one c.spell-k.result, e.0, e.1, take-append_seam (spelt c))
+digits c = rw (append-nil c.spell-k.new.out, add-one c.spell-k.result, c.spell-k.ensures.value, c.spell-k.ensures.out_after, take-append_seam (spelt c))
 
 pub spell-k-requires : goal.spell-k-requires
 spell-k-requires c = decimal-length 19 _ (omega arith)

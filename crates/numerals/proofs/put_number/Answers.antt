@@ -5,7 +5,6 @@ use mathlib.Core.Path.{◌≡◌, sym, ap, ◌∙◌}
 use mathlib.Core.List.{List}
 use lib.ListN.{length, take}
 use lib.Seq.{take-append_seam}
-use borrow.Author.Rules.{rules}
 use Rattle.numerals.specs.Numerals.{decimal}
 use Rattle.numerals.proofs.Printing.{decimal-length}
 use Rattle.numerals.proofs.put_number.Goals as goal
@@ -13,11 +12,11 @@ use Rattle.numerals.proofs.put_number.Goals.{After-spell-k}
 
 -- the number's digits
 abbrev spelt : After-spell-k → List ℕ
-spelt c = decimal c.before.before.before.args.n
+spelt c = decimal c.args.n
 
 -- they are what is put
 digits : (c : After-spell-k) → take c.spell-k.result c.spell-k.new.out ≡ spelt c
-digits c = let e = c.spell-k.ensures in rw (e.0, e.1) (take-append_seam (spelt c) _)
+digits c = rw (c.spell-k.ensures.value, c.spell-k.ensures.out_after) (take-append_seam (spelt c) _)
 
 pub spell-k-requires : goal.spell-k-requires
 spell-k-requires c = decimal-length 19 _ (omega arith)

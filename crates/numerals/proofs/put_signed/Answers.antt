@@ -7,7 +7,6 @@ use lib.IntN.{ℤ, pos, negsuc, nat_abs}
 use lib.Signed.{lt_z}
 use mir.Syntax.{w32}
 use mir.Val.{of_z, to_z}
-use borrow.Author.Rules.{rules}
 use borrow.Author.Tests.{ltb-true}
 use Rattle.plane.proofs.Bits.{back}
 use Rattle.numerals.specs.Numerals.{minus, decimal, signed}

@@ -1,7 +1,6 @@
 -- `numerals::starts_with_minus` meets its contract.
 use native.Mathlib.Omega.{arith}
 use mathlib.Core.Path.{sym}
-use borrow.Author.Rules.{rules}
 use Rattle.numerals.proofs.Reading.{starts_none, starts-some}
 use Rattle.numerals.proofs.starts_with_minus.Goals as goal
 

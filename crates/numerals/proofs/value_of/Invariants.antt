@@ -1,9 +1,7 @@
 -- `numerals::value_of` meets its contract. The invariant: the value so far and the bytes left have the value of all, and are digits just if all are.
 use Prim.Native.Nat.{◌≤◌, ◌<◌, ◌-◌, ◌^◌}
-use native.Mathlib.Omega.{arith}
 use mathlib.Core.Path.{◌≡◌}
 use lib.ListN.{length, drop}
-use borrow.Author.Rules.{rules}
 use Rattle.numerals.specs.Numerals.{are_digits, value_after}
 use Rattle.numerals.proofs.value_of.Given as goal
 

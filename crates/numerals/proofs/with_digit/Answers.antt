@@ -1,5 +1,4 @@
 -- `numerals::with_digit` meets its contract: a digit's byte is not below 48.
-use borrow.Author.Rules.{rules}
 use Rattle.numerals.proofs.Reading.{digit-range}
 use Rattle.numerals.proofs.with_digit.Goals as goal
 

@@ -1,4 +1,6 @@
 // Numbers in bytes, the highest byte first, at any place of any bytes. What they are is in specs/Numbers.antt, their laws in proofs/Laws.antt.
+#![tactic(auto)]
+
 ghost use Rattle.std.specs.Prelude.{◌+◌, ◌*◌, ◌/◌, ◌%◌, ◌^◌, ◌<◌, ◌≤◌, ◌≡◌, [], ◌∷◌, length, leb};
 ghost use Rattle.std.specs.Int.Signed.{mag};
 ghost use Rattle.plane.specs.Lists.{pasted, put_at};

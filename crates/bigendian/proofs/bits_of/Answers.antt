@@ -6,7 +6,6 @@ use lib.IntN.{pos, ◌+ℤ◌}
 use mir.Syntax.{w32, w64}
 use mir.Val.{of_z, to_z}
 use mir.Facts.{to_z_pos}
-use borrow.Author.Rules.{rules}
 use Rattle.plane.proofs.Bits.{back, back-wide, widened}
 use Rattle.bigendian.specs.Numbers.{bits}
 use Rattle.bigendian.proofs.Laws.{bits_below}

@@ -2,7 +2,6 @@
 use native.Mathlib.Omega.{arith}
 use mathlib.Core.Path.{sym}
 use lib.ListN.{get_or-eq_default}
-use borrow.Author.Rules.{rules}
 use Rattle.bigendian.proofs.byte_past.Goals as goal
 
 pub returns-then-bytes-at : goal.returns-then-bytes-at

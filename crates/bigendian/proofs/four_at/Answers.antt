@@ -1,6 +1,5 @@
 -- `bigendian::four_at` meets its contract.
 use mathlib.Core.Path.{◌∙◌}
-use borrow.Author.Rules.{rules}
 use Rattle.bigendian.proofs.Places.{four_bytes}
 use Rattle.bigendian.proofs.four_at.Goals as goal
 

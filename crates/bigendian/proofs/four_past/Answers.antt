@@ -2,7 +2,6 @@
 use Prim.Native.Nat.{◌+◌}
 use native.Mathlib.Nat.{add_assoc}
 use mathlib.Core.Path.{◌∙◌}
-use borrow.Author.Rules.{rules}
 use Rattle.bigendian.proofs.Places.{four_bytes}
 use Rattle.bigendian.proofs.four_past.Goals as goal
 

@@ -1,6 +1,5 @@
 -- `bigendian::of_four` meets its contract.
 use native.Mathlib.Omega.{arith}
-use borrow.Author.Rules.{rules}
 use Rattle.bigendian.specs.Numbers.{number_at}
 use Rattle.bigendian.proofs.of_four.Goals as goal
 

@@ -1,6 +1,5 @@
 -- `bigendian::of_two` meets its contract.
 use native.Mathlib.Omega.{arith}
-use borrow.Author.Rules.{rules}
 use Rattle.bigendian.specs.Numbers.{number_at}
 use Rattle.bigendian.proofs.of_two.Goals as goal
 

@@ -1,7 +1,6 @@
 -- `bigendian::put_four` meets its contract.
 use native.Mathlib.Omega.{arith}
 use lib.ListN.{length-set}
-use borrow.Author.Rules.{rules}
 use Rattle.bigendian.proofs.Places.{stored-four}
 use Rattle.bigendian.proofs.put_four.Goals as goal
 

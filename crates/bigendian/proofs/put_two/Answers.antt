@@ -1,7 +1,6 @@
 -- `bigendian::put_two` meets its contract.
 use native.Mathlib.Omega.{arith}
 use lib.ListN.{length-set}
-use borrow.Author.Rules.{rules}
 use Rattle.bigendian.proofs.Places.{stored-two}
 use Rattle.bigendian.proofs.put_two.Goals as goal
 

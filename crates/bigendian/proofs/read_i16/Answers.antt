@@ -3,7 +3,6 @@ use Prim.Native.Nat.{◌^◌, ◌<◌}
 use native.Mathlib.Omega.{arith}
 use lib.Signed.{mag}
 use mir.Facts.{to_z-of_z}
-use borrow.Author.Rules.{rules}
 use Rattle.plane.proofs.Bits.{back}
 use Rattle.bigendian.proofs.Laws.{signed-small}
 use Rattle.bigendian.proofs.read_i16.Goals as goal

@@ -1,6 +1,5 @@
 -- `bigendian::read_i32` meets its contract.
 use native.Mathlib.Omega.{arith}
-use borrow.Author.Rules.{rules}
 use Rattle.plane.proofs.Bits.{back}
 use Rattle.bigendian.proofs.read_i32.Goals as goal
 

@@ -4,7 +4,6 @@ use native.Mathlib.Nat.{add-zero}
 use mathlib.Core.Path.{sym, ◌∙◌}
 use lib.ListN.{length}
 use borrow.Author.Tests.{leb-true}
-use borrow.Author.Rules.{rules}
 use Rattle.bigendian.proofs.Places.{two_bytes}
 use Rattle.bigendian.proofs.read_u16.Goals as goal
 use Rattle.bigendian.proofs.read_u16.Goals.{Then-has_room}

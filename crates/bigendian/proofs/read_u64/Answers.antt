@@ -5,7 +5,6 @@ use native.Mathlib.Omega.{arith}
 use mathlib.Core.Path.{sym, ◌∙◌}
 use lib.ListN.{length}
 use borrow.Author.Tests.{leb-true}
-use borrow.Author.Rules.{rules}
 use Rattle.bigendian.proofs.Laws.{number-parts}
 use Rattle.bigendian.proofs.read_u64.Goals as goal
 use Rattle.bigendian.proofs.read_u64.Goals.{Then-has_room}

@@ -1,6 +1,5 @@
 -- `bigendian::two_at` meets its contract.
 use mathlib.Core.Path.{◌∙◌}
-use borrow.Author.Rules.{rules}
 use Rattle.bigendian.proofs.Places.{two_bytes}
 use Rattle.bigendian.proofs.two_at.Goals as goal
 

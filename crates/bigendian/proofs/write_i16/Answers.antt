@@ -6,7 +6,6 @@ use lib.Signed.{mag}
 use mir.Syntax.{w16, w32}
 use mir.Val.{of_z, to_z}
 use mir.Facts.{to_z-of_z}
-use borrow.Author.Rules.{rules}
 use Rattle.plane.proofs.Bits.{back}
 use Rattle.bigendian.proofs.Laws.{bits_below}
 use Rattle.bigendian.proofs.write_i16.Goals as goal
@@ -18,7 +17,7 @@ module _ (s : Start) where
   small = omega arith
 
   narrow : to_z w16 (of_z w16 s.args.z) ≡ s.args.z
-  narrow = to_z-of_z (record { sfits = small })
+  narrow = to_z-of_z {w = w16} (record { sfits = small })
 
   wide : to_z w32 (of_z w32 (to_z w16 (of_z w16 s.args.z))) ≡ s.args.z
   wide = let h = small in rw narrow (back s.args.z (omega arith))

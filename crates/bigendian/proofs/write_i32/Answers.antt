@@ -1,7 +1,6 @@
 -- `bigendian::write_i32` meets its contract.
 use native.Mathlib.Omega.{arith}
 use mathlib.Core.Path.{◌∙◌}
-use borrow.Author.Rules.{rules}
 use Rattle.plane.proofs.Bits.{back}
 use Rattle.bigendian.proofs.write_i32.Goals as goal
 

@@ -3,7 +3,6 @@ use Prim.Native.Nat.{◌+◌, ◌≤◌}
 use mathlib.Core.Path.{sym, ◌∙◌}
 use lib.ListN.{length}
 use borrow.Author.Tests.{leb-true, leb-false}
-use borrow.Author.Rules.{rules}
 use Rattle.plane.proofs.AtPlace.{put-with-room, put-without-room}
 use Rattle.bigendian.specs.Numbers.{bytes_of}
 use Rattle.bigendian.proofs.Laws.{length-bytes}

@@ -4,7 +4,6 @@ use native.Mathlib.Omega.{arith}
 use mathlib.Core.Path.{sym, ◌∙◌}
 use lib.ListN.{length}
 use borrow.Author.Tests.{leb-true, leb-false}
-use borrow.Author.Rules.{rules}
 use Rattle.plane.proofs.AtPlace.{put-with-room, put-without-room, pasted_length}
 use Rattle.bigendian.specs.Numbers.{bytes_of}
 use Rattle.bigendian.proofs.Laws.{length-bytes}

@@ -1,4 +1,6 @@
 // Reads lines of points. What a good line is, what is refused and what the reader leaves is in specs/.
+#![tactic(auto)]
+
 ghost use Rattle.std.specs.Prelude.{◌*◌, ◌<◌, ◌≤◌, ◌≡◌, length};
 ghost use Rattle.plane.specs.Lists.{at_start};
 ghost use Rattle.plane.specs.Words.{flat_points};

@@ -18,8 +18,8 @@ use Rattle.reading.specs.Lines.{newline, space, before_first, after_first, point
 use Rattle.reading.specs.Inner.{parsed, line_says, next_line, line_from}
 use Rattle.plane.proofs.AtPlace.{part-rest}
 use Rattle.reading.proofs.Lines.{first_line, first-line, take-before}
-use Rattle.reading.proofs.read_line.Statement.{statement}
-use Rattle.reading.proofs.read_line.Tie as tie
+use Rattle.reading.proofs.read_line.Goals as goal
+use Rattle.reading.proofs.read_line.Goals.{After-find-end, After-parse, After-rest-1, Start}
 
 -- what the code says of a line, by what it says of its bytes
 says-good : (o : Option Point) (n : ℕ) {p : Point} → parsed o ≡ Good p → Read p n ≡ line_says o n
@@ -55,37 +55,31 @@ module _ (t : List ℕ) (at end : ℕ) (h : at < length t) (e : end ≡ length (
     bad g = rw read_first (says_none (line_point (first_line (drop at t))) (next_line t at) (sym point-first ∙ g))
 
 -- the places before: the start, and where the newline is found
-abbrev start : tie.After-find → tie.Start
-start f = f.before.before.before
+abbrev start : After-find-end → Start
+start f = (goal.at-After-find-end f).Start
 
-abbrev found : tie.After-parse → tie.After-find
-found p = p.before.before.before
+abbrev found : After-parse → After-find-end
+found p = (goal.at-After-parse p).After-find-end
 
-returns : tie.Need-returns
-returns c =
-    let f = c.before in
+pub returns-then-end-rest : goal.returns-then-end-rest
+returns-then-end-rest c =
+    let s = start (goal.at.returns-then-end-rest c).After-find-end in
+    unended s.args.text.now s.args.at c.find-end.result s.requires c.find-end.ensures.0 (omega arith)
+
+pub returns-in-Good : goal.returns-in-Good
+returns-in-Good c =
+    let f = found (goal.at.returns-in-Good c).After-parse in
     let s = start f in
-    unended s.args.text.now s.args.at f.find.result s.pre f.find.ensures.0 (omega arith)
+    good s.args.text.now s.args.at f.find-end.result s.requires f.find-end.ensures.0 (omega arith) c.parse.ensures c.in-Good.is
 
-returns-2 : tie.Need-returns-2
-returns-2 c =
-    let p = c.before.before.before in
-    let f = found p in
+pub returns-in-None : goal.returns-in-None
+returns-in-None c =
+    let f = found (goal.at.returns-in-None c).After-parse in
     let s = start f in
-    good s.args.text.now s.args.at f.find.result s.pre f.find.ensures.0 (omega arith) p.parse.ensures c.before.point.given.1
+    bad s.args.text.now s.args.at f.find-end.result s.requires f.find-end.ensures.0 (omega arith) c.parse.ensures c.in-None.is
 
-returns-3 : tie.Need-returns-3
-returns-3 c =
-    let p = c.before.before in
-    let f = found p in
-    let s = start f in
-    bad s.args.text.now s.args.at f.find.result s.pre f.find.ensures.0 (omega arith) p.parse.ensures c.enum_told.given.1
+pub slice_bounds-parse-end : goal.slice_bounds-parse-end
+slice_bounds-parse-end c = search (rules, length-take-le)
 
-pub read-line-spec : {M : Type 1} → statement M
-read-line-spec =
-    tie.close
-    (tie.spec
-    (λ c. search rules) (λ c. search rules) (λ c. search rules) (λ c κs. search rules) returns (λ c. search (rules, length-take-le))
-    (λ c κs. search rules) (λ c. search rules) (λ c. search rules)
-    (λ c. let s = start (found c.before.before.before) in omega (arith, length-drop s.args.at s.args.text.now)) (λ c. search rules)
-    returns-2 returns-3)
+pub overflow_add-result-in-Good : goal.overflow_add-result-in-Good
+overflow_add-result-in-Good c = let s = start (found (goal.at.overflow_add-result-in-Good c).After-parse) in omega (arith, length-drop s.args.at s.args.text.now)

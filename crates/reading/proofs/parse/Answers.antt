@@ -16,8 +16,7 @@ use Rattle.reading.specs.Lines.{space, before_first, after_first, point_from}
 use Rattle.reading.specs.Inner.{read_as, parsed}
 use Rattle.plane.proofs.AtPlace.{part-rest}
 use Rattle.reading.proofs.Lines.{take-before, drop-before, after_none}
-use Rattle.reading.proofs.parse.Statement.{statement}
-use Rattle.reading.proofs.parse.Tie as tie
+use Rattle.reading.proofs.parse.Goals as goal
 
 no_second : (x : Option ℤ) → point_from x none ≡ none
 no_second none = refl
@@ -35,16 +34,13 @@ joined :
     r ≡ parsed (point_from (read_as x) (read_as y)) → r ≡ parsed (point_from (number_of (before_first space t)) (number_of (after_first space t)))
 joined t gap e f g h = rw (h, f, g, numeral-read_as (number_of (take gap t)), numeral-read_as, part-rest, e, take-before, add-one, drop-before)
 
-returns : tie.Need-returns
+pub returns-then-gap-line : goal.returns-then-gap-line
 unfolding number_of
-returns c = let t = c.before.before.before.args.line.now in rw (after_none space t (omega arith), no_second)
+returns-then-gap-line c = let t = c.args.line.now in rw (after_none space t (omega arith), no_second)
 
-returns-2 : tie.Need-returns-2
-returns-2 c =
-    let y = c.before in
-    let x = y.before.before in
-    let f = x.before.before.before in
-    joined f.before.before.args.line.now f.find.result f.find.ensures.0 x.number_of_lem.ensures y.number-of2.ensures c.paired.ensures
+pub returns : goal.returns
+returns c =
+    joined c.args.line.now c.find-gap.result c.find-gap.ensures.0 c.number_of-x.ensures c.number_of-y.ensures c.paired.ensures
 
-pub parse-spec : {M : Type 1} → statement M
-parse-spec = tie.close (tie.spec (λ c κs. search rules) returns (λ c. search (rules, length-take-le)) (λ c κs. search rules) (λ c. search rules) (λ c. search rules) (λ c. search rules) (λ c. search rules) (λ c κs. search rules) (λ c κs. search rules) returns-2)
+pub slice_bounds-number_of-end : goal.slice_bounds-number_of-end
+slice_bounds-number_of-end c = search (rules, length-take-le)

@@ -12,7 +12,6 @@ use Rattle.plane.specs.Lists.{any}
 use Rattle.plane.proofs.Bools.{and_parts}
 use Rattle.records.specs.declared.Treatment.{Treatment}
 use Rattle.records.specs.declared.Treatment.TheVariants.{End, Name, Leave, Refer, Layer, Vertices, Unknown, Skip}
-use Rattle.records.specs.Format.{table}
 use Rattle.records.specs.Records.{treatment_of}
 use Rattle.records.proofs.Forms.{unknown-beyond}
 

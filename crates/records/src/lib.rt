@@ -1,6 +1,8 @@
 // Records of the public GDSII stream format: the data that each type can have, the order in which they come, and how each is treated. The public
 // functions are `record_of` and `treatment_of`. What they promise is in specs/: the two tables of the format in specs/Format.antt, and one record in
 // specs/Records.antt.
+#![tactic(auto)]
+
 ghost use Rattle.std.specs.Prelude.{◌≡◌};
 ghost use Rattle.records.specs.Format.{fits, follow};
 ghost use Rattle.records.specs.Records.{head_of, treatment_of, record_of};

@@ -1,7 +1,9 @@
 // The two ends of a program: standard input and standard output. What fails there is said on standard error, never passed over.
+#![tactic(auto)]
+
 ghost use Rattle.io.specs.Counts.{IsPrefixLen};
 
-use libc::{STDERR_FILENO, STDIN_FILENO, STDOUT_FILENO};
+use std::io::{Print, Read, Stderr, Stdin};
 
 // How many bytes were read, and whether a read failed.
 #[derive(Clone, Copy)]
@@ -11,23 +13,25 @@ struct Input {
 }
 
 // Reads until the array is full, the input ends or a read fails. A pipe may give a part at a time.
-fn read_all(bytes: &mut [u8]) -> Input
+fn read_all(mut stdin: Stdin, bytes: &mut [u8]) -> Input
     ensures { IsPrefixLen result.length bytes.new }
 {
     let mut length = 0;
     while length < bytes.len() {
-        let got = libc::read(STDIN_FILENO, &mut bytes[length..]);
-        if got < 0 {
-            return Input {
-                length: length,
-                failed: true,
-            };
+        match stdin.read(&mut bytes[length..]) {
+            Ok(more) => {
+                if more == 0 {
+                    break;
+                }
+                length += more;
+            }
+            Err(_) => {
+                return Input {
+                    length: length,
+                    failed: true,
+                };
+            }
         }
-        let more = io::count(got, &bytes[length..]);
-        if more == 0 {
-            break;
-        }
-        length += more;
     }
     Input {
         length: length,
@@ -35,14 +39,19 @@ fn read_all(bytes: &mut [u8]) -> Input
     }
 }
 
+// Writes the bytes to standard error. Where that fails, there is no place left to say so.
+pub fn write_error(rt: HostRuntime, bytes: &[u8]) {
+    let _told = rt.stderr().write_all(bytes).is_ok();
+}
+
 // Reads standard input into the array, as much as it holds, and gives how many bytes were read.
-pub fn read_input(bytes: &mut [u8]) -> usize
+pub fn read_input(rt: HostRuntime, bytes: &mut [u8]) -> usize
     ensures { IsPrefixLen result bytes.new }
 {
-    let input = read_all(bytes);
+    let input = read_all(rt.stdin(), bytes);
     if input.failed {
-        io::write_all(
-            STDERR_FILENO,
+        write_error(
+            rt,
             b"Standard input could not be read to its end: what was read before is taken for all of it.\n",
         );
     }
@@ -50,11 +59,8 @@ pub fn read_input(bytes: &mut [u8]) -> usize
 }
 
 // Writes the bytes to standard output.
-pub fn write_output(bytes: &[u8]) {
-    if !io::write_all(STDOUT_FILENO, bytes) {
-        io::write_all(
-            STDERR_FILENO,
-            b"Standard output could not be written whole.\n",
-        );
+pub fn write_output(rt: HostRuntime, bytes: &[u8]) {
+    if rt.stdout().write_all(bytes).is_err() {
+        write_error(rt, b"Standard output could not be written whole.\n");
     }
 }

@@ -23,8 +23,9 @@ use Rattle.outline.specs.Inner.{climbs, climbs_after, OddOnes}
 -- ---- The first number
 
 -- numbers that climb after k are above it
-climbs-above : (k : ℕ) {j : ℕ} {ks : List ℕ} → climbs_after k ks ≡ true → In j ks → k < j
+climbs-above : {j : ℕ} (k : ℕ) {ks : List ℕ} → climbs_after k ks ≡ true → In j ks → k < j
 unfolding climbs_after
+climbs-above k {ks = []} e m = elim m [ ]
 climbs-above k {ks = i ∷ ks} e (head d) = omega (arith, ltb-true k i (and_parts (ltb k i) (climbs_after i ks) e).0)
 climbs-above k {ks = i ∷ ks} e (tail m) = let h = and_parts (ltb k i) (climbs_after i ks) e in omega (arith, ltb-true k i h.0, climbs-above i h.1 m)
 
@@ -43,6 +44,7 @@ climbs-least k e (tail m) = omega (arith, climbs-above k e m)
 -- a number of a list that climbs stands an odd number of times, namely once
 pub climbs-odd : {j : ℕ} {ks : List ℕ} → climbs ks ≡ true → In j ks → odd (eqb j) ks ≡ true
 unfolding climbs
+climbs-odd {ks = []} e m = elim m [ ]
 climbs-odd {j} {ks = k ∷ ks} e (head d) = odd-cons (eqb j) k ks ∙ rw (eq-eqb j k d, odd-none (eqb j) ks (λ i m. ne_eqb j i (λ g. omega (arith, climbs-above k e m))), xor-false)
 climbs-odd {j} {ks = k ∷ ks} e (tail m) = odd-cons (eqb j) k ks ∙ rw (ne_eqb j k (λ g. omega (arith, climbs-above k e m)), climbs-odd (climbs-rest k ks e) m, false-xor)
 

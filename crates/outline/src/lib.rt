@@ -3,6 +3,8 @@
 // `rule`.
 // A point is told by its key, a number that rises in the order of y, then x. The keys of all corners would be half a mebibyte, so the
 // points are listed in batches: one pass over the rectangles gathers the lowest keys from a start on, as many as a small array holds.
+#![tactic(auto)]
+
 ghost use Rattle.std.specs.Prelude.{◌≡◌, cond, true, false, [], ◌∷◌, length, take, eqb, ◌+◌, ◌*◌, ◌/◌, ◌<◌, ◌≤◌};
 ghost use Rattle.plane.specs.Lists.{at_start};
 ghost use Rattle.plane.specs.Words.{rect_in_range, flat, corners_of, rects_of, flat_points};

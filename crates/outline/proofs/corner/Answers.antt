@@ -2,7 +2,6 @@
 use Prim.Native.Nat.{ℕ, ◌≤◌}
 use native.Mathlib.Omega.{arith}
 use mathlib.Core.Path.{◌≡◌, refl}
-use mathlib.Core.Logic.{⊎_elim}
 use mathlib.Core.Bool.{Bool, true, false, cond}
 use lib.IntN.{ℤ, pos, ◌+ℤ◌, +ℤ_idr}
 use lib.Signed.{mag}
@@ -12,8 +11,8 @@ use Rattle.plane.specs.Words.{in_range, right, top, rect_in_range}
 use Rattle.plane.proofs.Bools.{and-four, cond-case}
 use Rattle.plane.proofs.Order.{range-most}
 use Rattle.plane.proofs.Bits.{back}
-use Rattle.outline.proofs.corner.Statement.{statement}
-use Rattle.outline.proofs.corner.Tie as tie
+use Rattle.outline.proofs.corner.Goals as goal
+use Rattle.outline.proofs.corner.Goals.{Joined-right, Joined-top, Start, else-right, else-top, then-right, then-top}
 
 -- a coordinate's bits and the bits n have a sum: the far side, or the coordinate where that is not asked for
 record Sum (far : Bool) (near by : ℤ) (n : ℕ) : Type 0 where
@@ -34,23 +33,29 @@ sum far near by n p q e =
     go false = +ℤ_idr near
 
 -- the rectangle's numbers are in range
-ranges : (s : tie.Start) → let r = s.args.r in (in_range r.x ≡ true) × (in_range r.y ≡ true) × (in_range (right r) ≡ true) × (in_range (top r) ≡ true)
+ranges : (s : Start) → let r = s.args.r in (in_range r.x ≡ true) × (in_range r.y ≡ true) × (in_range (right r) ≡ true) × (in_range (top r) ≡ true)
 unfolding rect_in_range
 ranges s = let r = s.args.r in and-four (in_range r.x) (in_range r.y) (in_range (right r)) (in_range (top r)) s.requires
 
 -- the sum across
-across : (t : tie.Joined1) → let s = t.before.args in Sum s.right s.r.x s.r.w t.if1.w
+across : (t : Joined-right) → let s = t.args in Sum s.right s.r.x s.r.w t.if-right.w-bits
 across t =
-    let s = t.before.args in
-    let h = ranges t.before in
-    sum s.right s.r.x s.r.w t.if1.w h.0 h.2 (⊎_elim (λ w. rw (w.0.taken, w.2) (back s.r.w (omega arith))) (λ w. rw (w.0.left, w.1)) t.if1.branch)
+    let s = t.args in
+    let h = ranges (goal.at-Joined-right t).Start in
+    sum s.right s.r.x s.r.w t.if-right.w-bits h.0 h.2 (elim t.if-right.branch [ then-right w ↦ rw (w.if-right.true, w.w-is) (back s.r.w (omega arith)) | else-right w ↦ rw (w.if-right.false, w.w-is) ])
 
 -- the sum upwards
-upward : (t : tie.Joined2) → let s = t.before.before.args in Sum s.top s.r.y s.r.h t.if2.h
+upward : (t : Joined-top) → let s = t.args in Sum s.top s.r.y s.r.h t.if-top.h-bits
 upward t =
-    let s = t.before.before.args in
-    let h = ranges t.before.before in
-    sum s.top s.r.y s.r.h t.if2.h h.1 h.3 (⊎_elim (λ w. rw (w.0.taken, w.2) (back s.r.h (omega arith))) (λ w. rw (w.0.left, w.1)) t.if2.branch)
+    let s = t.args in
+    let h = ranges (goal.at-Joined-top t).Start in
+    sum s.top s.r.y s.r.h t.if-top.h-bits h.1 h.3 (elim t.if-top.branch [ then-top w ↦ rw (w.if-top.true, w.h-is) (back s.r.h (omega arith)) | else-top w ↦ rw (w.if-top.false, w.h-is) ])
 
-pub corner-spec : {M : Type 1} → statement M
-corner-spec = tie.close (tie.spec (λ c. (across c.before.before.before).fits) (λ c. (upward c.before.before.before.before).fits) (λ c i. let t = c.before.before.before.before in record { x = (across t.before).is i; y = (upward t).is i }))
+pub overflow_add-result : goal.overflow_add-result
+overflow_add-result c = (across (goal.at.overflow_add-result c).Joined-right).fits
+
+pub overflow_add-result-2 : goal.overflow_add-result-2
+overflow_add-result-2 c = (upward (goal.at.overflow_add-result-2 c).Joined-top).fits
+
+pub returns : goal.returns
+returns c i = record { x = (across (goal.at.returns c).Joined-right).is i; y = (upward (goal.at.returns c).Joined-top).is i }

@@ -1,9 +1,10 @@
 // The program: the points of standard input become a picture on standard output.
+#![tactic(auto)]
 
-fn main() {
+fn main(rt: HostRuntime) {
     let mut bytes: [u8; 65537] = [0; 65537];
-    let length = ends::read_input(&mut bytes);
+    let length = ends::read_input(rt, &mut bytes);
     let mut drawn: [u8; drawing::MOST_DRAWN] = [0; drawing::MOST_DRAWN];
     let n = drawing::picture(&bytes[..length], &mut drawn);
-    ends::write_output(&drawn[..n]);
+    ends::write_output(rt, &drawn[..n]);
 }

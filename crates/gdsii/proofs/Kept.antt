@@ -3,7 +3,7 @@
 use mathlib.Core.Path.{◌≡◌, refl, sym, ap, ◌∙◌}
 use mathlib.Core.Logic.Iff
 use mathlib.Core.Logic.{◌↔◌}
-use Prim.Native.Nat.{ℕ, ◌+◌, ◌*◌, ◌/◌, ◌≤◌}
+use Prim.Native.Nat.{ℕ, ◌*◌, ◌/◌, ◌≤◌}
 use native.Mathlib.Omega.{arith}
 use mathlib.Core.Bool.{Bool, true, false, not, cond}
 use mathlib.Core.List.{List, [], ◌∷◌, ◌++◌}
@@ -99,6 +99,7 @@ module _ (t name : List ℕ) (layer : ℤ) where
 
   -- no number is 0
   fault-numbered : (o : Outcome) → walk ≡ o → {k p : ℕ} → FirstMet (fault_in o) k p → 12 ≤ k
+  fault-numbered (walked found boundaries) e m = elim m [ ]
   fault-numbered (stopped k p) e here = (fault-number name layer t e).0
 
   read-numbered : (out : ℕ) → Numbered (read_checks walk out)

@@ -11,7 +11,7 @@ use Rattle.plane.specs.Lists.{any}
 use Rattle.plane.specs.Words.{same}
 use Rattle.bigendian.specs.Numbers.{number_at, signed}
 use Rattle.bigendian.proofs.Laws.{number-drop}
-use Rattle.boundaries.specs.Boundary.{edge, edges_of, slanted, last_or, is_open}
+use Rattle.boundaries.specs.Boundary.{edges_of, slanted, last_or, is_open}
 use Rattle.gdsii.specs.declared.Cursor.{Cursor}
 use Rattle.gdsii.specs.declared.Shape.TheVariants.{Open, Slanted, Fine}
 use Rattle.gdsii.specs.declared.Judged.TheVariants.{Refused, Boundary}

@@ -2,6 +2,8 @@
 // specs/: the walk over the records in specs/Walk.antt, and the call in specs/Call.antt.
 // The stream is walked once. The corners of each boundary that is read are put into the scratch array as they are met, and the cells that they mark
 // are counted; these counts, added, are more than the cells that all the corners mark exactly when two boundaries overlap.
+#![tactic(auto)]
+
 ghost use Rattle.std.specs.Prelude.{◌+◌, ◌-◌, ◌*◌, ◌/◌, ◌<◌, ◌≤◌, ◌^◌, ◌≡◌, true, false, cond, [], length, take, drop, get_or, replicate, pos};
 ghost use Rattle.std.specs.Bool.{xor};
 ghost use Rattle.plane.specs.Lists.{bit, keep, at_start};

@@ -1,5 +1,5 @@
 -- `gdsii::copy` meets its contract. The invariant: the first i numbers are copied, and nothing else has changed.
-use Prim.Native.Nat.{ℕ, suc, ◌-◌, ◌<◌, ◌≤◌}
+use Prim.Native.Nat.{ℕ, suc, ◌<◌, ◌≤◌}
 use native.Mathlib.Nat.{zero-add}
 use native.Mathlib.Numerals.{add-one}
 use native.Mathlib.Omega.{arith}
@@ -8,40 +8,25 @@ use mathlib.Core.List.{List}
 use lib.ListN.{length, get_or, set, length-set}
 use lib.IntN.{ℤ, pos}
 use lib.Seq.{take-length, paste, paste-zero, paste-suc}
-use borrow.Author.Rules.{rules}
 use Rattle.plane.proofs.Bits.{back}
-use Rattle.gdsii.proofs.copy.Statement.{statement}
-use Rattle.gdsii.proofs.copy.Tie as tie
+use Rattle.gdsii.proofs.copy.Goals as goal
 
-abbrev invariant-loop : tie.invariant-loop
-invariant-loop numbers out₀ i₀ out i = (i ≤ length numbers) × (length out ≡ length out₀) × (out ≡ paste out₀ 0 numbers i)
-
-abbrev decreases-loop : tie.decreases-loop
-decreases-loop numbers out₀ i₀ out i = length numbers - i
-
-loop-holds : tie.Need-loop-init invariant-loop decreases-loop
-loop-holds c = let a = c.args in (omega arith, refl, paste-zero a.out.now 0 a.numbers.now)
+pub loop-i-init : goal.loop-i-init
+loop-i-init c = let a = c.args in (omega arith, refl, paste-zero a.out.now 0 a.numbers.now)
 
 -- one number more
 copied_next : (numbers out : List ℤ) (i : ℕ) → i < length numbers → length numbers ≤ length out → set (paste out 0 numbers i) i (get_or numbers i (pos 0)) ≡ paste out 0 numbers (suc i)
 copied_next numbers out i h room = subst (λ (j : ℕ). set (paste out 0 numbers i) j (get_or numbers i (pos 0)) ≡ paste out 0 numbers (suc i)) (zero-add i) (paste-suc out 0 numbers i (pos 0) (omega arith) h)
 
-loop-again : tie.Need-loop-preserved invariant-loop decreases-loop
-loop-again c =
-    let l = c.before.before.loop in
-    let a = c.before.before.before.args in
+pub loop-i-preserved : goal.loop-i-preserved
+loop-i-preserved c =
+    let l = c.loop-i in
+    let a = c.args in
     (omega arith, simp length-set l.invariant.1, rw (l.invariant.2, add-one, back (get_or a.numbers.now l.i (pos 0)) (omega arith)) (copied_next a.numbers.now a.out.now l.i (omega arith) (omega arith)))
 
-returns : tie.Need-returns invariant-loop decreases-loop
+pub returns : goal.returns
 returns c =
-    let l = c.before.loop in
-    let a = c.before.before.args in
+    let l = c.loop-i in
+    let a = c.args in
     let e : l.i ≡ length a.numbers.now = omega arith in
     l.invariant.2 ∙ rw (e, take-length a.numbers.now, zero-add (length a.numbers.now))
-
-pub copy_spec : {M : Type 1} → statement M
-copy_spec =
-    tie.close
-    (tie.spec
-    invariant-loop decreases-loop loop-holds (λ c. search rules) (λ c. search rules) (λ c. search rules) (λ c. search rules) (λ c. search rules) (λ c. search rules) loop-again
-    (λ c. search rules) returns)

@@ -2,12 +2,8 @@
 use borrow.Author.Rules.{rules}
 use Rattle.boundaries.specs.Boundary.{horizontal, vertical}
 use Rattle.plane.proofs.Bits.{eq-bits}
-use Rattle.gdsii.proofs.is_slanted.Statement.{statement}
-use Rattle.gdsii.proofs.is_slanted.Tie as tie
+use Rattle.gdsii.proofs.is_slanted.Goals as goal
 
-returns : tie.Need-returns
+pub returns : goal.returns
 unfolding horizontal vertical
 returns c = search (rules, eq-bits)
-
-pub is-slanted-spec : {M : Type 1} → statement M
-is-slanted-spec = tie.close (tie.spec returns)

@@ -5,6 +5,8 @@
 // start, those right of it at its end. On a row the points and the live rectangles are walked through together. Where a point falls into a
 // live rectangle, or one begins left of it and reaches it, it ends: its rectangle is done, and its two ends are points of the row like the
 // others. The points of a row, two by two, begin new rectangles. That this gives the rule's list is shown in the crate `live`.
+#![tactic(auto)]
+
 ghost use Rattle.std.specs.Prelude.{◌≡◌, true, false, not, length, pos, ◌-ℤ◌, ◌+◌, ◌*◌, ◌<◌, ◌≤◌};
 ghost use Rattle.std.specs.Int.{w32};
 ghost use Rattle.std.proofs.Common.{SFits};

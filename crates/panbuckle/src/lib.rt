@@ -1,6 +1,8 @@
 // Panbuckle: the corner points of right-angled shapes become disjoint rectangles, and back.
 // The public functions are `forward` and `step`, at the end, and `backward`, passed on from the crate `outline`. What they promise, the
 // rule, the refusals and the answers are the definitions of the crate `rule`.
+#![tactic(auto)]
+
 ghost use Rattle.std.specs.Prelude.{◌≡◌, cond, true, false, ◌-ℤ◌, length, ◌+◌, ◌*◌, ◌<◌, ◌≤◌};
 ghost use Rattle.std.proofs.Math.Option.{get_or};
 ghost use Rattle.std.specs.Int.{w32};

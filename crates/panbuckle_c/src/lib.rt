@@ -1,5 +1,7 @@
 // The C face of the library: the four entry points on plain numbers and arrays, and the face's version, declared for C in include/panbuckle.h.
 // An array that is lent passes as a pointer and a length; one of a fixed size passes as a pointer.
+#![tactic(auto)]
+
 ghost use Rattle.std.specs.Prelude.{◌≡◌, [], ◌∷◌};
 ghost use Rattle.panbuckle_c.specs.Face.{forward_numbers, counted_numbers, ForwardCalled, BackwardCalled, StepCalled, ReadCalled, version};
 

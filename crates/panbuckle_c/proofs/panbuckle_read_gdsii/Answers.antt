@@ -4,22 +4,16 @@ use mathlib.Core.Path.{◌≡◌, refl, subst}
 use mathlib.Core.List.{List}
 use Prim.Native.Nat.{ℕ}
 use lib.IntN.{ℤ}
-use borrow.Author.Rules.{rules}
 use Rattle.plane.proofs.Bits.{back}
 use Rattle.entry.specs.declared.Counted.{Counted}
 use Rattle.gdsii.specs.Call.{ReadDone}
-use Rattle.panbuckle_c.proofs.panbuckle_read_gdsii.Statement.{statement}
-use Rattle.panbuckle_c.proofs.panbuckle_read_gdsii.Tie as tie
+use Rattle.panbuckle_c.proofs.panbuckle_read_gdsii.Goals as goal
 
 -- of the layer as it was given
 as-given : (t name : List ℕ) {number layer : ℤ} {out : List ℤ} {r : Counted} {scratch after : List ℤ} → number ≡ layer → ReadDone t name number out r scratch after → ReadDone t name layer out r scratch after
 as-given t name {out = out} {r} {scratch} {after} e d = subst (λ (z : ℤ). ReadDone t name z out r scratch after) e d
 
-returns : tie.Need-returns
+pub returns : goal.returns
 returns c =
-    let w = c.before.before.before in
-    let a = w.before.before.before.before.before.args in
-    record { said = _; done = as-given a.bytes.now a.name.now (back a.layer (omega arith)) w.read-gdsii.ensures; told = record { returned = refl; result = c.put-counted.ensures } }
-
-pub panbuckle-read-gdsii-spec : {M : Type 1} → statement M
-panbuckle-read-gdsii-spec = tie.close (tie.spec (λ c κs. search rules) (λ c κs. search rules) (λ c. search rules) returns)
+    let a = c.args in
+    record { said = _; done = as-given a.bytes.now a.name.now (back a.layer (omega arith)) c.read_gdsii-r.ensures; told = record { returned = refl; result = c.put_counted.ensures } }

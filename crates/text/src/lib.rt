@@ -1,4 +1,6 @@
 // The program's whole behaviour on slices: bytes in, bytes out. What is refused, printed and said is in specs/.
+#![tactic(auto)]
+
 ghost use Rattle.std.specs.Prelude.{◌+◌, ◌*◌, ◌≤◌, ◌≡◌, length, take};
 ghost use Rattle.plane.specs.Lists.{put_at};
 ghost use Rattle.plane.specs.Words.{origin, points_of, rects_of, rect_size};

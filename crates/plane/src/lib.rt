@@ -1,4 +1,6 @@
 // The words of the plane, as document 01 has them, and the point and the rectangle at a place of an array. What is said of them is in specs/.
+#![tactic(auto)]
+
 ghost use Rattle.std.specs.Prelude.{◌+◌, ◌*◌, ◌<◌, ◌≡◌, [], length, nat_abs, ◌-ℤ◌};
 ghost use Rattle.plane.specs.Words.{origin, same, before, points_of, point_at, rect_size, rects_of, rect_at};
 ghost use Rattle.plane.specs.Keys.{raised, lowered, row_step, key_of, point_of};

@@ -1,7 +1,6 @@
 -- `plane::apart` meets its contract: two numbers are as far apart as their distances above the lowest.
 use native.Mathlib.Omega.{arith}
 use mathlib.Core.Path.{◌≡◌, ap, ◌∙◌}
-use borrow.Author.Rules.{rules}
 use Rattle.plane.specs.Keys.{raised}
 use Rattle.plane.proofs.Bits.{back}
 use Rattle.plane.proofs.Keys.{is-raised, raised-apart}

@@ -1,7 +1,6 @@
 -- `plane::key_of` meets its contract.
 use native.Mathlib.Omega.{arith}
 use mathlib.Core.Path.{◌≡◌, ap, ◌∙◌}
-use borrow.Author.Rules.{rules}
 use Rattle.plane.specs.Keys.{raised, key_of}
 use Rattle.plane.proofs.Bits.{back}
 use Rattle.plane.proofs.key_of.Goals as goal

@@ -2,7 +2,6 @@
 use native.Mathlib.Omega.{arith}
 use mathlib.Core.Path.{sym, ◌∙◌}
 use lib.ListN.{get_or-eq_default}
-use borrow.Author.Rules.{rules}
 use Rattle.plane.specs.Words.{origin, points_of}
 use Rattle.plane.proofs.Arrays.{length-points}
 use Rattle.plane.proofs.point_at.Goals as goal

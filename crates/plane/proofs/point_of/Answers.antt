@@ -1,6 +1,5 @@
 -- `plane::point_of` meets its contract.
 use native.Mathlib.Omega.{arith}
-use borrow.Author.Rules.{rules}
 use Rattle.plane.specs.Keys.{point_of}
 use Rattle.plane.proofs.Bits.{back}
 use Rattle.plane.proofs.point_of.Goals as goal

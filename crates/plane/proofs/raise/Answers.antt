@@ -1,12 +1,12 @@
 -- `plane::raise` meets its contract: in 64 bits nothing wraps.
 use native.Mathlib.Omega.{arith}
-use mathlib.Core.Path.{◌≡◌, refl}
+use mathlib.Core.Path.{◌≡◌}
 use lib.IntN.{pos, ◌+ℤ◌}
 use mir.Syntax.{w32, w64}
 use mir.Val.{of_z, to_z}
 use Rattle.plane.specs.Keys.{raised}
-use Rattle.plane.proofs.Bits.{back, back-wide, widened}
-use Rattle.plane.proofs.Keys.{Raised, is-raised, raised-sum}
+use Rattle.plane.proofs.Bits.{back, back-wide}
+use Rattle.plane.proofs.Keys.{is-raised, raised-sum}
 use Rattle.plane.proofs.raise.Goals as goal
 
 module _ (s : goal.Start) where

@@ -3,7 +3,6 @@ use native.Mathlib.Omega.{arith}
 use mathlib.Core.Path.{sym, ◌∙◌}
 use mathlib.Core.List.{[]}
 use lib.ListN.{get_or-eq_default}
-use borrow.Author.Rules.{rules}
 use Rattle.plane.specs.Words.{rects_of, rect_at}
 use Rattle.plane.proofs.Arrays.{length-rects}
 use Rattle.plane.proofs.rect_at.Goals as goal

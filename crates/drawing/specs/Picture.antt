@@ -6,7 +6,7 @@ use Rattle.plane.specs.Lists.{odd, at_start}
 use Rattle.plane.specs.Words.{same, flat_points}
 use Rattle.plane.specs.Keys.{raised}
 use Rattle.entry.specs.Entry.{if_accepted}
-use Rattle.entry.specs.Checks.{Verdict, refused, verdict}
+use Rattle.entry.specs.Checks.{Verdict, verdict}
 use Rattle.rule.specs.ForwardCall.{forward_checks, Sums, sums_told, forward_list, forward_answer}
 use Rattle.numerals.specs.Bytes.{ascii}
 use Rattle.numerals.specs.Numerals.{decimal}

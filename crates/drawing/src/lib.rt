@@ -1,5 +1,7 @@
 // A picture of what the program makes of its input: an SVG with the rectangles, their numbers and the points, or with the point that
 // is refused. What it shows and where is in specs/.
+#![tactic(auto)]
+
 ghost use Rattle.std.specs.Prelude.{◌+◌, ◌-◌, ◌*◌, ◌<◌, ◌≤◌, min, max, ◌≡◌, length, take, get_or, eqb};
 ghost use Rattle.plane.specs.Lists.{bit, odd};
 ghost use Rattle.plane.specs.Words.{same, points_of, rects_of, rect_size};

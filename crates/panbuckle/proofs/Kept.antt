@@ -72,7 +72,7 @@ module _ {a work out : List ℤ} {r : ForwardAnswer} {work-after out-after : Lis
   pub done-told : sums_told r ≡ forward_sums a
   done-told = rw answers-list
 
-  -- the count and the area (the sum of W-as-H) are those of the rectangles written
+  -- the count and the area (the sum of W·H) are those of the rectangles written
   pub done-sums : let list = list_of r out-after in (r.count ≡ length list) × (r.area ≡ sum area_of list)
   done-sums = rw (done-list, answers-list) (refl, refl)
 

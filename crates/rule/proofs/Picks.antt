@@ -144,7 +144,7 @@ module _ {ps : List Point} {k l : Point} {m : ℤ} (c : Picked ps k l m) where
 -- a point of a row, at or right of xK and left of xL, stops
 pub over-make : (xk xl y : ℤ) (q : Point) → on_row y q ≡ true → le_z xk q.x ≡ true → lt_z q.x xl ≡ true → over xk xl y q ≡ true
 unfolding over
-over-make xk xl y q a b c = simp (a, b, c)
+over-make xk xl y q a b c = let d : le_z q.x xl ≡ true = omega order in simp (a, b, c, d)
 
 -- an even test that K passes has another point
 another : (f : Point → Bool) {k : Point} {ps : List Point} → In k ps → count (same k) ps ≤ 1 → f k ≡ true → odd f ps ≡ false → (q : Point) × In q ps × (same k q ≡ false) × (f q ≡ true)

@@ -17,8 +17,8 @@ ANTT_DECLARATION = re.compile(
 )
 RT_DECLARATION = re.compile(r"\b(?:fn|struct|enum|const)\s+(\w+)")
 RT_PUBLIC_FUNCTION = re.compile(r'\bpub\s+(?:(?:const|unsafe|extern|"C")\s+)*fn\s+(\w+)[^(]*')
-# After a function's parameters: a clause of its contract, or its body.
-RT_CLAUSE_OR_BODY = re.compile(r"(?:\b(requires|ensures)\s*)?\{")
+# After a function's parameters: a clause of its contract, which may have a name, or its body.
+RT_CLAUSE_OR_BODY = re.compile(r"(?:\b(requires|ensures)\b\*?\s*(?:\w+\s*)?)?\{")
 BRACKET = re.compile(r"[(){}\[\]]")
 
 

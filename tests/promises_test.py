@@ -32,17 +32,17 @@ GOOD_SPEC = """\
 -- hidden : ℕ
 {- veiled : ℕ
 shrouded : ℕ -}
-use mathlib.Core.Path.{_≡_, brought}
+use Rattle.std.specs.Prelude.{◌≡◌, brought}
 
 plain : ℕ
 plain = 1 -- {- opens no block
 
-unfoldable pub open′ : ℕ → ℕ
+unfoldable pub open' : ℕ → ℕ
 abbrev pub short : ℕ
 axiom pub assumed : ℕ
 pub levelled {ℓ κ} : {A : Type ℓ} → A → A
-_⊕_ : ℕ → ℕ → ℕ
-pub ruleset simps = (plain, open′)
+◌⊕◌ : ℕ → ℕ → ℕ
+pub ruleset simps = (plain, open')
 
 pub data Shape : Type 0 where
   round : (radius : ℕ) → Shape
@@ -50,24 +50,26 @@ pub data Shape : Type 0 where
 pub record Box (n : ℕ) : Type 0 where
   pub side : ℕ -- -} closes none
 """
-SPEC_NAMES = "plain, open′, short, assumed, levelled, _⊕_, simps, Shape, round, Box, side"
+SPEC_NAMES = "plain, open', short, assumed, levelled, ◌⊕◌, simps, Shape, round, Box, side"
 
 GOOD_SOURCE = """\
 // pub fn hidden() {}
 /* pub fn veiled() {} */
+#![tactic(auto)]
+#[derive(Clone, Copy)]
 pub struct Point { pub x: i32 }
 enum Kind { A }
 const OPENS: &[u8] = b"/*";
 fn helper() {}
 const CLOSES: &[u8] = b"*/";
 pub fn first<'a>(s: &'a [u8]) -> u8
-    ensures { λ r. ⌜ { r } ≡ { 34 } ⌝ }
-    ensures { λ r. ⌜ r < 35 ⌝ }
+    ensures value { { result } ≡ { 34 } }
+    ensures upper_bound { result < 35 }
 { b'"' }
-#[no_mangle]
+#[unsafe(no_mangle)]
 pub extern "C" fn exported() {}
 impl Point {
-    pub fn method(self) -> [i32; 1] ensures { λ r. ⌜ r ≡ self .x ⌝ } { [self.x] }
+    pub fn method(self) -> [i32; 1] ensures { result ≡ self.x } { [self.x] }
 }
 """
 SOURCE_NAMES = "Point, Kind, OPENS, helper, CLOSES, first, exported, method"
@@ -86,8 +88,8 @@ class Tool:
         """Works."""
 '''
 
-ENSURES = "ensures { λ r. ⌜ r ≡ r ⌝ }"
-GOOD_OTHER_SOURCE = "pub fn first(a: &mut [u64]) ensures { ⌜ now (a .exit) ≡ sorted ⌝ } {}\n"
+ENSURES = "ensures { result ≡ result }"
+GOOD_OTHER_SOURCE = "pub fn first(a: &mut [u64]) ensures { a.new ≡ sorted } {}\n"
 
 GOOD_EDIT = "file: src/lib.rt\nold: one\nnew: two\n"
 
@@ -304,7 +306,7 @@ class ThingsToCite(CheckerCase):
         self.assert_uncited_function(f"pub fn free() {ENSURES} {{}}\n", "free")
 
     def test_exported_function(self):
-        self.assert_uncited_function(f'#[no_mangle]\npub extern "C" fn out() {ENSURES} {{}}\n', "out")
+        self.assert_uncited_function(f'#[unsafe(no_mangle)]\npub extern "C" fn out() {ENSURES} {{}}\n', "out")
 
     def test_method(self):
         self.assert_uncited_function(f"impl Point {{\n    pub fn turn(self) {ENSURES} {{}}\n}}\n", "turn")
@@ -341,15 +343,15 @@ class Contracts(CheckerCase):
         self.assert_fault({SOURCE: GOOD_SOURCE.replace(old, new)}, f"{SOURCE}: the public function {fault}")
 
     def test_result_without_ensures(self):
-        contract = "ensures { λ r. ⌜ r ≡ self .x ⌝ }"
+        contract = "ensures { result ≡ self.x }"
         self.assert_function_fault((contract, ""), "has no `ensures`: method")
 
     def test_ensures_in_a_comment(self):
-        contract = "ensures { λ r. ⌜ r ≡ self .x ⌝ }"
+        contract = "ensures { result ≡ self.x }"
         self.assert_function_fault((contract, f"/* {contract} */"), "has no `ensures`: method")
 
     def test_ensures_in_the_body(self):
-        contract = "ensures { λ r. ⌜ r ≡ self .x ⌝ }"
+        contract = "ensures { result ≡ self.x }"
         self.assert_function_fault((contract, f"{{ {contract} }}"), "has no `ensures`: method")
 
     def test_lent_array_without_ensures(self):
@@ -361,10 +363,16 @@ class Contracts(CheckerCase):
         self.assert_fault({OTHER_SOURCE: code}, f"{OTHER_SOURCE}: the public function has no `ensures`: first")
 
     def test_requires(self):
-        self.assert_function_fault(("-> u8\n", "-> u8 requires { ⌜ 1 < 2 ⌝ }\n"), "has a `requires`: first")
+        self.assert_function_fault(("-> u8\n", "-> u8 requires { 1 < 2 }\n"), "has a `requires`: first")
+
+    def test_requires_with_a_name(self):
+        self.assert_function_fault(("-> u8\n", "-> u8\n    requires one_less {\n        1 < 2\n    }\n"), "has a `requires`: first")
 
     def test_requires_after_ensures(self):
-        self.assert_function_fault(("r < 35 ⌝ }", "r < 35 ⌝ }\nrequires { ⌜ 1 < 2 ⌝ }"), "has a `requires`: first")
+        self.assert_function_fault(("result < 35 }", "result < 35 }\nrequires { 1 < 2 }"), "has a `requires`: first")
+
+    def test_requires_of_memory(self):
+        self.assert_function_fault(("result < 35 }", "result < 35 }\nrequires* one_less { ⌜ 1 < 2 ⌝ }"), "has a `requires`: first")
 
     def test_function_left_out(self):
         text = promises(contracts=f"`{SOURCE}: first`")

@@ -1,12 +1,14 @@
 """Judges the edits: wrong programs and wrong definitions, each of which the prover must refuse at the very fact that the edit names.
 
-An edit says in a comment '# Fails first: FILE: NAME (why)', with FILE below its crate. In the prover's log of it the first fact that
-could not be proved is NAME in FILE, and no error is one of scope, syntax or shape, which would refuse any edit.
+An edit says in a comment '# Fails first: FILE: NAME (why)', with FILE below its crate. `rt` prints a line for each edit that it tries, with
+the first error of the prover's that it does not put down to a proof file that names what the edit took away. There the fact that could not be
+proved must be NAME in FILE. An edit that cannot be applied or read, that is still proved, or that is refused for its scope, syntax or shape
+alone, which would refuse any edit, is none.
 
 Edits stand in two places, in the same form:
 
-- crates/CRATE/must-fail/: the run of `rt ci` before has tried them, and their logs are judged here. A crate of code has at most two, but
-  for `plane` and `entry`;
+- crates/CRATE/must-fail/: the run of `rt ci` before has tried them, and what it wrote, which .ci/run keeps in target/ci.log, is judged here.
+  A crate of code has at most two, but for `plane` and `entry`;
 - tests/edits/CRATE/: tests/try_edits.py tries them when their crate changes. tests/edits/RECORD has a line 'CRATE/NAME HASH HASH' for
   each: the hash of the crate's src/, specs/ and proofs/ and that of the edit, when it was last refused at its fact. Nothing is proved
   here: no line may be missing, stale or of no edit.
@@ -23,10 +25,14 @@ from pathlib import Path
 from counting import report
 
 ROOT = Path(__file__).resolve().parent.parent
+LOG = "target/ci.log"
 FAILS_FIRST = re.compile(r"^# Fails first: (\S+): (\S+) \(.+\)$", re.MULTILINE)
+# What `rt` says of an edit that it tried, and how that begins where the prover refused it.
+TRIED = re.compile(r"^rt: must-fail (\w+/[\w.-]+)\.edit: (.*)$", re.MULTILINE)
+REFUSED = "refused, as it must be: "
 ERROR = re.compile(r"^(\S+?):\d+:\d+: error: (.*)$", re.MULTILINE)
 # What the prover says of a function that needs no proof file.
-NOT_PROVED = re.compile(r"^note: (\S+?):\d+:\d+: it is not proved that .*\((`\S+`)\)$", re.MULTILINE)
+NOT_PROVED = re.compile(r"^note: (\S+?):\d+:\d+: it is not proved that .*?\((`\S+`)\)", re.MULTILINE)
 # Such an error only follows from an earlier one.
 FOLLOWS = "so this cannot be checked"
 # Such an error says that the edited text is no longer Rattle or antt, or that a proof no longer fits the code's shape.
@@ -47,42 +53,56 @@ DIGITS = 16
 # ---- The judge
 
 
-def fault_of(edit, log):
-    """What is wrong with an edit's refusal, or None."""
+def tried_in(text):
+    """What a command of `rt` wrote of each edit, by its name CRATE/NAME."""
+    return dict(TRIED.findall(text))
+
+
+def unquoted(message):
+    """The prover's own words in a message, without the names and terms that it quotes."""
+    return re.sub(r"`[^`]*(?:`|$)", "", message)
+
+
+def fact_in(first):
+    """The file and the message of a fact that could not be proved, below its crate, if a line tells one."""
+    found = ERROR.match(first) or NOT_PROVED.match(first)
+    return (found[1].removeprefix("./"), found[2]) if found else None
+
+
+def fault_of(edit, told):
+    """What is wrong with an edit's refusal, of which `rt` told so, or None."""
     said = FAILS_FIRST.findall(edit.read_text(encoding="utf-8"))
     if len(said) != 1:
         return "it has not one line '# Fails first: FILE: NAME (why)'"
-    if not log.is_file():
-        return "the prover left no log of it: it was not tried, or what it replaces is not there"
-    text = log.read_text(encoding="utf-8")
-    errors = [(path, message) for path, message in ERROR.findall(text) if FOLLOWS not in message]
-    unproved = errors + NOT_PROVED.findall(text)
-    if not unproved:
-        return "the prover's log of it has no error"
-    (file, name), (path, message) = said[0], unproved[0]
-    if not (path.endswith("/" + file) and message.startswith(f"`{name}`")):
-        return f"it fails first at {path.rpartition('/must-fail/')[2]}: {message[:80]}"
-    unfit = [message for _, message in errors if UNFIT.search(message)]
-    return f"the edit itself is unfit: {unfit[0][:80]}" if unfit else None
-
-
-def log_of(root, crate, edit):
-    """The log that `rt must-fail` leaves of an edit."""
-    return root / "target" / "must-fail" / crate / edit.stem / ".log"
+    if told is None:
+        return "`rt` tells nothing of it: it was not tried"
+    if not told.startswith(REFUSED):
+        return f"it is not refused at a fact: {told[:160]}"
+    found = fact_in(told.removeprefix(REFUSED))
+    if found is None:
+        return f"it is refused, and first comes no fact: {told.removeprefix(REFUSED)[:160]}"
+    (file, name), (path, message) = said[0], found
+    if not (path == file and message.startswith(f"`{name}`")):
+        return f"it fails first at {path}: {message[:80]}"
+    unfit = FOLLOWS in message or UNFIT.search(unquoted(message))
+    return f"the edit itself is unfit: {message[:80]}" if unfit else None
 
 
 # ---- The edits that `rt ci` tries
 
 
+def log_of(root):
+    """What `rt ci` wrote, if it has run."""
+    file = root / LOG
+    return file.read_text(encoding="utf-8", errors="replace") if file.is_file() else ""
+
+
 def gate_faults(root):
     """The number of the edits that `rt ci` tries, and what is wrong with each that has a fault."""
-    edits = sorted(root.glob("crates/*/must-fail/*.edit"))
-    faults = {}
-    for edit in edits:
-        fault = fault_of(edit, log_of(root, edit.parent.parent.name, edit))
-        if fault:
-            faults[str(edit.relative_to(root))] = fault
-    return len(edits), faults
+    edits = {f"{edit.parent.parent.name}/{edit.stem}": edit for edit in sorted(root.glob("crates/*/must-fail/*.edit"))}
+    tried = tried_in(log_of(root))
+    judged = {str(edit.relative_to(root)): fault_of(edit, tried.get(name)) for name, edit in edits.items()}
+    return len(edits), {where: fault for where, fault in judged.items() if fault}
 
 
 def is_of_code(crate):

@@ -1,6 +1,6 @@
 """Tests tests/edits.py and tests/try_edits.py on small made-up trees: an edit in good order in each place, and one fault at a time.
 
-The prover is a stand-in that leaves the log it is told to.
+The prover is a stand-in that says of each edit what it is told to.
 
 The last line is 'N passed, M failed', and the exit status is 0 exactly when M is 0.
 """
@@ -13,32 +13,36 @@ import unittest
 from pathlib import Path
 
 from counting import run_tests
-from edits import RECORD, faults_of, hashes_today, write_record
+from edits import LOG, RECORD, faults_of, hashes_today, write_record
 
 TESTS = Path(__file__).resolve().parent
 EDIT = "crates/one/must-fail/wrong.edit"
-LOG = "target/must-fail/one/wrong/.log"
 GOOD_EDIT = "# Why.\n# Fails first: proofs/Sum.antt: sum-law (it sums)\nfile: specs/A.antt\nold: one\nnew: two\n"
-AT = "/somewhere/target/must-fail/one/wrong"
-GOOD_LOG = f"note: a note\n{AT}/proofs/Sum.antt:3:4: error: `sum-law`: the two types differ\n{AT}/proofs/B.antt:1:1: error: `b`: no\n"
+GOOD_FACT = "./proofs/Sum.antt:3:4: error: `sum-law`: the two types differ"
+GOOD = f"refused, as it must be: {GOOD_FACT}"
+NOTED = "note: src/lib.rt:3:4: it is not proved that the sum fits its type (at a range `..=n`, `n + 1`) (`add-sum`)"
 KEPT_EDIT = "tests/edits/two/worse.edit"
 MORE_EDIT = "tests/edits/two/worst.edit"
 RUN = "run `make edits`"
 
-# `rt check` fails in a tree with a file `broken`; `rt must-fail` copies what the tree's file `log` has for each edit, and counts its calls.
+# `rt check` fails in a tree with a file `broken`; `rt must-fail` says of each edit what the tree's file `told` has, and counts its calls.
 RT = """#!/bin/sh
 case $1 in
-check) mkdir -p target/rlib target/stamp; [ ! -e broken ] ;;
+check) [ -e src ] && [ ! -e "$TREE/broken" ] ;;
 must-fail)
     echo "$2" >>"$TREE/calls"
     for edit in crates/"$2"/must-fail/*.edit; do
-        name=$(basename "$edit" .edit)
-        mkdir -p "target/must-fail/$2/$name"
-        cp "$TREE/log" "target/must-fail/$2/$name/.log"
+        echo "rt: must-fail $2/$(basename "$edit"): $(cat "$TREE/told")"
     done
     ;;
 esac
 """
+
+
+def log_of(**told):
+    """What `rt ci` writes where it tells this of edits of the first crate."""
+    lines = [f"rt: must-fail one/{name}.edit: {said}" for name, said in told.items()]
+    return "\n".join(["== one", "logic=proved functions=1", "rt: one proved", *lines, "rt: FAILED: two", "1 passed, 1 failed", ""])
 
 
 def write(root, path, text):
@@ -58,7 +62,7 @@ class Tree(unittest.TestCase):
         self.root = Path(folder.name)
         for path, text in (("crates.txt", "one:\ntwo:\n"), ("crates/one/specs/A.antt", "one"), ("crates/two/src/lib.rt", "fn two() {}\n")):
             write(self.root, path, text)
-        for path, text in ((EDIT, GOOD_EDIT), (LOG, GOOD_LOG), (KEPT_EDIT, GOOD_EDIT), (RECORD, "")):
+        for path, text in ((EDIT, GOOD_EDIT), (LOG, log_of(wrong=GOOD)), (KEPT_EDIT, GOOD_EDIT), (RECORD, "")):
             write(self.root, path, text)
         write_record(self.root, hashes_today(self.root))
 
@@ -74,63 +78,95 @@ class Tree(unittest.TestCase):
 class Judge(Tree):
     """What the judge says of one edit."""
 
-    def judge(self, edit, log, *faults):
-        """The edit with this log has these faults."""
+    def judge(self, edit, told, *faults):
+        """The edit of which `rt ci` tells this has these faults."""
         write(self.root, EDIT, edit)
-        (self.root / LOG).unlink()
-        write(self.root, LOG, log)
+        write(self.root, LOG, log_of() if told is None else log_of(wrong=told))
         self.check(1 if faults else 2, *(f"{EDIT}: {fault}" for fault in faults))
 
     def test_refused_for_its_fact(self):
-        self.judge(GOOD_EDIT, GOOD_LOG)
+        self.judge(GOOD_EDIT, GOOD)
 
     def test_no_edit_at_all(self):
         (self.root / EDIT).unlink()
         self.check(1, "crates/*/must-fail: there is no edit")
 
     def test_names_no_fact(self):
-        self.judge(GOOD_EDIT.replace("Fails first", "Fails"), GOOD_LOG, "it has not one line '# Fails first: FILE: NAME (why)'")
+        self.judge(GOOD_EDIT.replace("Fails first", "Fails"), GOOD, "it has not one line '# Fails first: FILE: NAME (why)'")
 
-    def test_no_log(self):
-        self.judge(GOOD_EDIT, None, "the prover left no log of it: it was not tried, or what it replaces is not there")
+    def test_not_tried(self):
+        self.judge(GOOD_EDIT, None, "`rt` tells nothing of it: it was not tried")
 
-    def test_log_without_an_error(self):
-        self.judge(GOOD_EDIT, "logic=proved\n", "the prover's log of it has no error")
+    def test_no_run_of_the_gate(self):
+        (self.root / LOG).unlink()
+        self.check(1, f"{EDIT}: `rt` tells nothing of it: it was not tried")
+
+    def test_told_of_another_crate(self):
+        write(self.root, LOG, log_of(wrong=GOOD).replace("must-fail one/", "must-fail two/"))
+        self.check(1, f"{EDIT}: `rt` tells nothing of it: it was not tried")
+
+    def test_not_refused_at_a_fact(self):
+        for told in (
+            "BAD EDIT: an 'old:' text is in specs/A.antt 0 times, and not once",
+            "NOT REFUSED: the crate is still proved with this edit",
+            "NOT TRIED: its check ended with status 3",
+            "refused, as it must be",
+            "refused, as it must be (only by a limit of the prover): ./proofs/Sum.antt:3:4: error: `sum-law`: it is too long",
+            "refused, as it must be (only because a proof file names what the edit took away): ./proofs/Sum.antt:3:4: error: `sum-law`: no",
+        ):
+            self.judge(GOOD_EDIT, told, f"it is not refused at a fact: {told}")
+
+    def test_no_fact_comes_first(self):
+        said = "note: src/lib.rt:3:4: a note"
+        self.judge(GOOD_EDIT, f"refused, as it must be: {said}", f"it is refused, and first comes no fact: {said}")
+
+    def test_a_fact_whose_name_is_cut_off(self):
+        edit = GOOD_EDIT.replace("proofs/Sum.antt: sum-law", "src/lib.rt: add-sum")
+        self.judge(edit, f"refused, as it must be: {NOTED[:-4]}", f"it is refused, and first comes no fact: {NOTED[:-4]}")
 
     def test_another_fact(self):
-        log = GOOD_LOG.replace("`sum-law`", "`sum-laws`")
-        self.judge(GOOD_EDIT, log, "it fails first at one/wrong/proofs/Sum.antt: `sum-laws`: the two types differ")
+        told = GOOD.replace("`sum-law`", "`sum-laws`")
+        self.judge(GOOD_EDIT, told, "it fails first at proofs/Sum.antt: `sum-laws`: the two types differ")
 
     def test_another_file(self):
-        log = GOOD_LOG.replace("Sum.antt", "Product.antt")
-        self.judge(GOOD_EDIT, log, "it fails first at one/wrong/proofs/Product.antt: `sum-law`: the two types differ")
+        for other in ("Product.antt", "More/Sum.antt"):
+            told = GOOD.replace("Sum.antt", other)
+            self.judge(GOOD_EDIT, told, f"it fails first at proofs/{other}: `sum-law`: the two types differ")
 
-    def test_an_error_that_only_follows_is_passed_over(self):
-        follows = f"{AT}/proofs/A.antt:1:1: error: `a`: `sum-law` was not admitted, so this cannot be checked\n"
-        self.judge(GOOD_EDIT, follows + GOOD_LOG)
+    def test_a_file_of_that_name_elsewhere(self):
+        told = GOOD.replace("./proofs", "./specs/proofs")
+        self.judge(GOOD_EDIT, told, "it fails first at specs/proofs/Sum.antt: `sum-law`: the two types differ")
+
+    def test_an_error_that_only_follows(self):
+        told = GOOD.replace("the two types differ", "`other-law` was not admitted, so this cannot be checked")
+        self.judge(GOOD_EDIT, told, "the edit itself is unfit: `sum-law`: `other-law` was not admitted, so this cannot be checked")
 
     def test_refused_in_a_function_without_a_proof_file(self):
         edit = GOOD_EDIT.replace("proofs/Sum.antt: sum-law", "src/lib.rt: add-sum")
-        self.judge(edit, f"note: {AT}/src/lib.rt:3:4: it is not proved that the sum fits its type (`add-sum`)\n")
+        for more in ("", "; the facts known there allow values at which this goal is false", "; the facts (`known`) th"):
+            self.judge(edit, f"refused, as it must be: {NOTED}{more}")
 
-    def test_an_error_comes_before_a_function_without_a_proof_file(self):
-        log = f"note: {AT}/src/lib.rt:3:4: it is not proved that the sum fits its type (`add-sum`)\n"
-        self.judge(GOOD_EDIT, log + GOOD_LOG)
+    def test_a_function_without_a_proof_file_comes_first(self):
+        self.judge(GOOD_EDIT, f"refused, as it must be: {NOTED}", "it fails first at src/lib.rt: `add-sum`")
 
     def test_a_proof_that_no_longer_fits(self):
-        log = GOOD_LOG + f"{AT}/proofs/B.antt:2:1: error: `c`: record `Start` has no field `before`\n"
-        self.judge(GOOD_EDIT, log, "the edit itself is unfit: `c`: record `Start` has no field `before`")
+        told = GOOD.replace("the two types differ", "record `Start` has no field `before`")
+        self.judge(GOOD_EDIT, told, "the edit itself is unfit: `sum-law`: record `Start` has no field `before`")
 
     def test_edit_that_is_unfit(self):
-        log = GOOD_LOG + f"{AT}/specs/A.antt:1:1: error: `a`: `two` is not in scope\n"
-        self.judge(GOOD_EDIT, log, "the edit itself is unfit: `a`: `two` is not in scope")
+        told = GOOD.replace("the two types differ", "`two` is not in scope")
+        self.judge(GOOD_EDIT, told, "the edit itself is unfit: `sum-law`: `two` is not in scope")
+
+    def test_words_of_a_term_are_not_the_provers(self):
+        for term in ("`mir.syntax.binders x ≡ y`", "`mir.syntax.binders x ≡"):
+            self.judge(GOOD_EDIT, GOOD.replace("the two types differ", f"no proof of {term}"))
 
     def crowd(self, code):
         """Two edits more in the first crate, which has this code."""
         write(self.root, "crates/one/src/lib.rt", code)
         for name in ("more", "most"):
             write(self.root, EDIT.replace("wrong", name), GOOD_EDIT)
-            write(self.root, LOG.replace("wrong", name), GOOD_LOG)
+        write(self.root, LOG, log_of(wrong=GOOD, more=GOOD, most=GOOD))
 
     def test_three_edits_of_a_crate_of_code(self):
         self.crowd("pub fn one(x: u8) -> u8 {\n    x\n}\n")
@@ -167,7 +203,7 @@ class Record(Tree):
         self.changed("specs/New.antt", "")
 
     def test_another_proof(self):
-        self.changed("proofs/two/Proof.antt", "")
+        self.changed("proofs/two/Answers.antt", "")
 
     def test_file_of_the_crate_under_another_name(self):
         (self.root / "crates/two/src/lib.rt").rename(self.root / "crates/two/src/main.rt")
@@ -202,14 +238,15 @@ class Trial(Tree):
         super().setUp()
         write(self.root, "bin/rt", RT)
         (self.root / "bin/rt").chmod(0o755)
-        write(self.root, "log", GOOD_LOG)
+        write(self.root, "told", GOOD)
 
     def trial(self, *words):
         """Runs the script; gives its exit status and what it writes."""
         env = {**os.environ, "PATH": f"{self.root / 'bin'}:{os.environ['PATH']}", "TREE": str(self.root)}
         command = [sys.executable, TESTS / "try_edits.py", "--root", self.root, *words]
         done = subprocess.run(command, env=env, text=True, capture_output=True, check=False)
-        return done.returncode, done.stdout.splitlines()
+        lines = [line for line in done.stdout.splitlines() if not line.startswith("rt: ")]
+        return done.returncode, lines
 
     def calls(self):
         """The crates whose edits were tried."""
@@ -235,9 +272,15 @@ class Trial(Tree):
         self.assertEqual([line.split()[0] for line in self.record().splitlines()], ["two/worse", "two/worst"])
         self.check(3)
 
+    def test_what_a_check_left_is_not_hashed(self):
+        before = self.record()
+        write(self.root, "crates/two/out/two", "")
+        self.assertEqual(self.trial("--all"), (0, ["1 passed, 0 failed"]))
+        self.assertEqual(self.record(), before)
+
     def test_refused_at_another_fact_loses_its_line(self):
-        write(self.root, "log", GOOD_LOG.replace("sum-law", "product-law"))
-        fault = "tests/edits/two/worse: it fails first at one/wrong/proofs/Sum.antt: `product-law`: the two types differ"
+        write(self.root, "told", GOOD.replace("sum-law", "product-law"))
+        fault = "tests/edits/two/worse: it fails first at proofs/Sum.antt: `product-law`: the two types differ"
         self.assertEqual(self.trial("--all"), (1, [fault, "0 passed, 1 failed"]))
         self.assertEqual(self.record(), "")
 

@@ -2,14 +2,11 @@
 
 import shutil
 
-# Of what the prover leaves below target/, that by which it knows that a crate is proved.
-PROVED = ("rlib", "stamp")
-
 
 def copy_tree(root, folder):
-    """Copies what the prover reads, without must-fail edits, and what is proved already; the folder must not be there yet."""
-    shutil.copytree(root / "crates", folder / "crates", ignore=shutil.ignore_patterns("must-fail"))
-    shutil.copy(root / "crates.txt", folder)
-    for part in PROVED:
-        if (root / "target" / part).is_dir():
-            shutil.copytree(root / "target" / part, folder / "target" / part)
+    """Copies what the prover reads, without must-fail edits; the folder must not be there yet. What checks have left in out/ stays: `rt` finds
+    by itself what was proved of the same files in another copy on this machine."""
+    shutil.copytree(root / "crates", folder / "crates", ignore=shutil.ignore_patterns("must-fail", "out"))
+    for name in ("crates.txt", "HANDLES"):
+        if (root / name).is_file():
+            shutil.copy(root / name, folder)

@@ -2,8 +2,8 @@
 
 The words are crates, and without any all those that have edits there. An edit whose line in the record is fresh is not tried again,
 unless --all is given. The crates are proved as they are first. Then `rt must-fail` tries the edits of each crate in a scratch copy of the
-repository, below target/, where the prover's logs stay; tests/edits.py judges them, and the crate's lines of the record are written anew.
-It takes half a minute to two for each edit, and is no part of the test gate, which checks the record.
+repository, elsewhere, since no Rattle may stand beside the crates; tests/edits.py judges what it writes, and the crate's lines of the record
+are written anew. It takes half a minute to two for each edit, and is no part of the test gate, which checks the record.
 
 Each fault is printed on a line. The last line is 'N passed, M failed', and the exit status is 0 exactly when M is 0.
 """
@@ -12,13 +12,14 @@ import argparse
 import shutil
 import subprocess
 import sys
+import tempfile
 from pathlib import Path
 
 from counting import report
-from edits import KEPT, ROOT, fault_of, hashes_today, kept_edits, log_of, read_record, write_record
+from edits import KEPT, ROOT, fault_of, hashes_today, kept_edits, read_record, tried_in, write_record
 from scratch import copy_tree
 
-SCRATCH = "target/edits"
+UNPROVED = "it is not proved as it is, or what it names is not"
 
 
 def fresh_lines(root):
@@ -42,10 +43,19 @@ def try_crate(scratch, crate, edits):
     folder.mkdir()
     for edit in edits.values():
         shutil.copy(edit, folder)
-    subprocess.run(["rt", "must-fail", crate], cwd=scratch, stdin=subprocess.DEVNULL, check=False)
+    ends = {"stdin": subprocess.DEVNULL, "stdout": subprocess.PIPE, "stderr": subprocess.STDOUT}
+    said = subprocess.run(["rt", "must-fail", crate], cwd=scratch, **ends, text=True, errors="replace", check=False).stdout
+    print(said, end="", flush=True)
     shutil.rmtree(folder)
-    judged = {name: fault_of(edit, log_of(scratch, crate, edit)) for name, edit in edits.items()}
+    tried = tried_in(said)
+    judged = {name: fault_of(edit, tried.get(name)) for name, edit in edits.items()}
     return {name: fault for name, fault in judged.items() if fault}
+
+
+def is_proved(root, crate):
+    """Whether a crate is proved as it is, with those below it. A check in the scratch copy begins with what this one keeps."""
+    folder = root / "crates" / crate
+    return subprocess.run(["rt", "check"], cwd=folder, stdin=subprocess.DEVNULL, check=False).returncode == 0
 
 
 def keep(root, before, tried, faults):
@@ -57,16 +67,15 @@ def keep(root, before, tried, faults):
 def try_all(root, edits):
     """Tries edits, crate by crate, and keeps the record; gives the faults."""
     crates = sorted({edit.parent.name for edit in edits.values()})
-    if subprocess.run(["rt", "check", *crates], cwd=root, stdin=subprocess.DEVNULL, check=False).returncode != 0:
-        return {crate: "it is not proved as it is, or what it names is not" for crate in crates}
-    shutil.rmtree(root / SCRATCH, ignore_errors=True)
-    copy_tree(root, root / SCRATCH)
-    before, faults = hashes_today(root), {}
-    for crate in crates:
-        tried = {name: edit for name, edit in edits.items() if edit.parent.name == crate}
-        found = try_crate(root / SCRATCH, crate, tried)
-        keep(root, before, tried, found)
-        faults.update(found)
+    before, faults = hashes_today(root), {crate: UNPROVED for crate in crates if not is_proved(root, crate)}
+    with tempfile.TemporaryDirectory(prefix="edits-") as folder:
+        scratch = Path(folder) / "repository"
+        copy_tree(root, scratch)
+        for crate in [crate for crate in crates if crate not in faults]:
+            tried = {name: edit for name, edit in edits.items() if edit.parent.name == crate}
+            found = try_crate(scratch, crate, tried)
+            keep(root, before, tried, found)
+            faults.update(found)
     return faults
 
 

@@ -4,7 +4,7 @@
 help:
 	@echo 'make help      print the targets'
 	@echo 'make test      run the test gate, .ci/run'
-	@echo 'make archive   prove the C face and write target/staticlib/libpanbuckle_c.a'
+	@echo 'make archive   prove the C face and write crates/panbuckle_c/out/libpanbuckle_c.a'
 	@echo 'make bench     time the library beside Boost.Polygon, std::sort and KLayout, some minutes; no part of the gate'
 	@echo 'make edits     try the edits of tests/edits/ that have no fresh record, of all crates or of those named after it: half a minute each'
 	@echo 'make refusals  write the numbers of the refusals into include/panbuckle.h, and say where else they are missing'
@@ -14,7 +14,7 @@ test:
 	@.ci/run
 
 archive:
-	@rt staticlib panbuckle_c
+	@cd crates/panbuckle_c && rt lib
 
 bench:
 	@python3 bench/bench.py

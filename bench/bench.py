@@ -1,7 +1,7 @@
 """Builds Panbuckle's C face and the programs of this folder, runs them, and prints the figures of docs/SPEED.md.
 
 The words are parts: points (the families of points, and backward), streams (the reading of GDSII). Without any, all are run. Both sides are built
-for x86-64 and run the same way: natively, or both under the kit's emulator on another processor, where only the ratios say something.
+for x86-64 and run the same way: natively, or both under Debian's emulator on another processor, where only the ratios say something.
 Debian's packages that are wanted and not there are installed, but for KLayout, beside which streams are read: peers.py fetches it.
 """
 
@@ -18,7 +18,7 @@ from streams import AREAS, CORNERS, DEEP, LAYER, MEGABYTE, STREAMS, WANTED, writ
 
 sys.path.append(str(Path(__file__).resolve().parent.parent / "tests"))
 
-from machine import ARCHIVE, NATIVE, ROOT, emulator, kit  # noqa: E402
+from machine import ARCHIVE, NATIVE, ROOT, emulator  # noqa: E402
 
 COMPILER = "g++" if NATIVE else "x86_64-linux-gnu-g++"
 PACKAGES = ["g++"] if NATIVE else ["g++-x86-64-linux-gnu"]
@@ -65,11 +65,6 @@ def built(folder, name="compare"):
 def with_libraries(program, loader):
     """The words that run a program that is not static: under the emulator with a loader, and the libraries that stand beside it."""
     return [program] if NATIVE else [*emulator(), loader, "--library-path", loader.parent, program]
-
-
-def kit_program(name):
-    """The words that run a program of this repository, with the kit's libraries."""
-    return with_libraries(ROOT / "target" / "bin" / name, kit() / "lib" / LOADER)
 
 
 def cross_program(program):
@@ -171,7 +166,7 @@ def show_fracture(bench, name, n):
     checks; forward makes them and the list."""
     points = family(name, n)
     text, far, empty = bench.file("whole", points), bench.file("far", [(2000000000, 0), *points[1:]]), bench.file("empty", [])
-    program = kit_program("fracture")
+    program = cross_program(ROOT / "crates" / "fracture" / "out" / "fracture")
     start, read, whole = (float(bench.rows("program", file, *program)[0][1]) for file in (empty, far, text))
     checks = float(bench.rows("step", text)[0][2])
     listed = float(bench.rows("forward", text)[0][3])
@@ -181,7 +176,8 @@ def show_fracture(bench, name, n):
 
 def show_points(folder):
     """The families of points, forward, in a step, backward and by fracture."""
-    run("rt", "check", "fracture", cwd=ROOT)
+    # This builds it where it is not built, and runs it.
+    run(ROOT / "bin" / "fracture", stdin=subprocess.DEVNULL)
     bench = Bench(folder, built(folder))
     show_growth(compare_forward(bench, SIZES), SIZES)
     compare_backward(bench)
@@ -263,7 +259,7 @@ def main():
     if not set(wanted) <= set(PARTS):
         raise SystemExit(f"bench.py: the parts are {', '.join(PARTS)}")
     ensure_tools()
-    run("rt", "staticlib", "panbuckle_c", cwd=ROOT)
+    run("rt", "lib", cwd=ROOT / "crates" / "panbuckle_c")
     for part in wanted:
         with tempfile.TemporaryDirectory() as folder:
             PARTS[part](folder)

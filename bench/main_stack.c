@@ -1,4 +1,4 @@
-/* Loaded before KLayout's libraries where it runs under the kit's emulator. Ruby, which KLayout starts, asks where the first thread's stack is;
+/* Loaded before KLayout's libraries where it runs under an emulator. Ruby, which KLayout starts, asks where the first thread's stack is;
  * the C library would look that up in /proc/self/maps, at which the emulator (8.2.2) ends with a fault. This answers in its place: the largest
  * stack that may be, up to a little above the caller. */
 #define _GNU_SOURCE

@@ -2,7 +2,7 @@
 
 Run by itself it fetches KLayout. On x86-64 that is `apt-get install`. On another processor it downloads the package for x86-64 and what it
 needs, 150 MB, unpacks them, 600 MB, below target/peers (or the folder that BENCH_PEERS names), and leaves the machine's own packages alone;
-KLayout then runs under the kit's emulator, as ours does.
+KLayout then runs under Debian's emulator, as ours does.
 """
 
 import os

@@ -3,7 +3,8 @@ of; that a header of another version does not link; the program of examples/c, b
 tests/pairs.py holds fracture; and every answer against what tests/refusals.c expects.
 
 The archive is for x86-64. On such a machine the program is built with its C compiler and runs as it is; on another one it is built with a
-cross compiler and runs under the kit's emulator. `rt ci` before has proved the crates.
+cross compiler and runs under an emulator. `rt ci` before has proved the crates; `rt lib` proves them again where nothing is kept of it, and
+writes the archive.
 
 Each fault is printed on a line. The last line is 'N passed, M failed', and the exit status is 0 exactly when M is 0.
 """
@@ -16,6 +17,7 @@ import tempfile
 from pathlib import Path
 
 from counting import report
+from edits import PARTS
 from machine import ARCHIVE, NATIVE, ROOT, emulator
 from pairs import FOLDERS, input_of
 
@@ -38,6 +40,8 @@ FEWEST_INPUTS = 90
 # So many calls does tests/refusals.c make.
 CALLS = 92
 
+# In Rattle `result` is a word of clauses, so that a parameter of that name has another one there.
+NAMES = {"res": "result"}
 C_TYPES = {"u8": "uint8_t", "i32": "int32_t", "u32": "uint32_t", "u64": "uint64_t", "usize": "size_t"}
 SLICE = re.compile(r"&(mut )?\[(u8|i32)\]")
 FIXED = re.compile(r"&mut \[(i32|u64); (\d+)\]")
@@ -107,7 +111,7 @@ def exported(source, listed_as):
     """The functions that a source exports: the name, the parameters in another language, and the result's type."""
     for name, parameters, result in FUNCTION.findall(source):
         pairs = [part.strip().split(": ") for part in parameters.split(",") if part.strip()]
-        yield name, ", ".join(text for pair in pairs for text in listed_as(*pair)), result
+        yield name, ", ".join(text for word, kind in pairs for text in listed_as(NAMES.get(word, word), kind)), result
 
 
 def declarations(header):
@@ -210,13 +214,19 @@ def version_faults(folder, header):
 
 
 def archived():
-    """Whether the archive could be proved and written."""
-    return subprocess.run(["rt", "staticlib", "panbuckle_c"], cwd=ROOT, check=False, stdout=subprocess.DEVNULL).returncode == 0
+    """Whether the archive could be proved and written; if not, what `rt lib` says is shown."""
+    ends = {"stdin": subprocess.DEVNULL, "stdout": subprocess.PIPE, "stderr": subprocess.STDOUT}
+    done = subprocess.run(["rt", "lib"], cwd=ROOT / "crates" / "panbuckle_c", **ends, text=True, errors="replace", check=False)
+    if done.returncode == 0:
+        ARCHIVE.touch()
+    else:
+        print(done.stdout, end="", flush=True)
+    return done.returncode == 0
 
 
 def made():
     """Whether the archive is there; this script may have made it of the same sources."""
-    sources = [ROOT / "crates.txt", *(ROOT / "crates").rglob("*")]
+    sources = [ROOT / "crates.txt", *(source for part in PARTS for source in ROOT.glob(f"crates/*/{part}/**/*"))]
     fresh = ARCHIVE.exists() and all(source.stat().st_mtime < ARCHIVE.stat().st_mtime for source in sources)
     return fresh or archived()
 

@@ -32,9 +32,12 @@ SCRIPT = script()
 
 # What is not edited: a comment, a contract, a type.
 BEFORE = """// 1 < 2
-ghost use mathlib.Core.Path.{_≡_};
+#![tactic(auto)]
+
+ghost use Rattle.std.specs.Prelude.{◌≡◌};
 use one::LESS;
 
+#[derive(Clone, Copy)]
 pub struct Pair {
     pub x: u64,
     pub y: u64,
@@ -47,8 +50,8 @@ enum Shape {
 }
 
 fn f(a: u64, b: u64, c: bool) -> u64
-    requires { ⌜ (a - 1 < 2) × (b ≡ 3) ⌝ }
-    ensures { λ r. ⌜ r ≡ 4 ⌝ }
+    requires { (a - 1 < 2) × (b ≡ 3) }
+    ensures { result ≡ 4 }
 {
     """
 AFTER = "\n}\n"
@@ -105,6 +108,13 @@ class Edits(unittest.TestCase):
 
     def test_a_pattern(self):
         self.check("constant", "match a { 3 => b, _ => a }", "match a { 4 => b, _ => a }", "match a { 2 => b, _ => a }")
+
+    def test_a_result_that_is_taken_apart(self):
+        body = "match g(a, &mut d[b..]) { Ok(more) => { if more == 0 { break; } a += more; } Err(_) => { return Pair { x: a }; } }"
+        self.check("comparison", body, body.replace("more == 0", "more != 0"))
+        self.check("constant", body, body.replace("0", "1"))
+        self.check("exchange", body, body.replace("+=", "-="))
+        self.check("drop", body, body.replace("if more == 0 { break; }", ""), body.replace("a += more;", ""))
 
     def test_operands(self):
         self.check("exchange", "a < b", "b < a")
@@ -168,7 +178,8 @@ class Sources(unittest.TestCase):
         self.assertEqual(found, {"one/MOST": True, "one/LESS": False, "one/g": False})
 
     def test_what_stands_before_a_body(self):
-        text = "#[no_mangle]\npub extern \"C\" fn g<'a>(a: &'a [u8; 4]) -> [u8; 4]\n    ensures whole { ⌜ 4 ≡ 4 ⌝ }\n{\n    [a[0]; 4]\n}\n"
+        clauses = "    requires { 3 ≡ 3 }\n    ensures whole { 4 ≡ 4 }\n    ensures part { 5 ≡ 5 }\n"
+        text = f"#[unsafe(no_mangle)]\npub extern \"C\" fn g<'a>(a: &'a [u8; 4]) -> [u8; 4]\n{clauses}{{\n    [a[0]; 4]\n}}\n"
         found = [difference(text, mutant)[1][1] for mutant in mutants_in(text)]
         self.assertEqual(found, ["+ [a[1]; 4]", "+ [a[0]; 5]", "+ [a[0]; 3]"])
 
@@ -249,8 +260,8 @@ class Choice(unittest.TestCase):
 class Verdicts(unittest.TestCase):
     """How what the prover says is read."""
 
-    REFUSED = "/s/crates/one/proofs/f/Proof.antt:3:4: error: `returns`: the two types differ\nlogic=not-proved\n"
-    STILLBORN = "/s/crates/one/src/lib.rt:3:4: error[mismatched-types]: expected `bool`\n"
+    REFUSED = "./proofs/f/Answers.antt:3:4: error: `returns`: the two types differ\nlogic=not-proved\n"
+    STILLBORN = "src/lib.rt:3:4: error[mismatched-types]: expected `bool`\n"
 
     def test_each_verdict(self):
         self.assertEqual(SCRIPT.verdict_of(0, "logic=proved functions=8\n"), "accepted")
@@ -264,36 +275,48 @@ class Verdicts(unittest.TestCase):
         self.assertEqual(SCRIPT.verdict_of(1, "logic=proved functions=8\n"), "not told")
         self.assertEqual(SCRIPT.verdict_of(2, self.STILLBORN), "not told")
 
-    def check_outcome(self, wanted, status, said="", **logs):
-        """With these logs of `rt check two`, of a crate that names another, this is what it came to."""
-        with tempfile.TemporaryDirectory() as folder:
-            Path(folder, "crates.txt").write_text("one:\ntwo: one io\n", encoding="utf-8")
-            Path(folder, "target", "log").mkdir(parents=True)
-            for crate, log in logs.items():
-                Path(folder, "target", "log", f"{crate}.out").write_text(log, encoding="utf-8")
-            self.assertEqual(SCRIPT.outcome_of(Path(folder), "two", status, said)[0], wanted)
+    def check_outcome(self, wanted, status, *said):
+        """Where `rt ci two` ends with this status and writes this, of a crate that names another, this is what it came to."""
+        verdict, crate, log = SCRIPT.outcome_of("two", status, "rt: note: a note\n" + "".join(said))
+        self.assertEqual((verdict, *([crate, log] if verdict == "refused" else [])), wanted)
 
     def test_what_a_check_came_to(self):
-        proved, same = "logic=proved functions=1\nrt: two proved (2 s)\n", "rt: one proved (unchanged since it was last proved)\n"
-        unproved = "rt: two NOT PROVED: its dependency one is not proved\n"
-        self.check_outcome("accepted", 0, one=same, two=proved)
-        self.check_outcome("accepted", 1, "rt: two proved, and its run FAILED (0 s)\n", one=same, two=proved)
-        self.check_outcome("not told", 1, one=same, two=proved)
-        self.check_outcome("refused", 1, one=same, two=self.REFUSED)
-        self.check_outcome("refused", 1, one=self.REFUSED, two=unproved)
-        self.check_outcome("stillborn", 1, one=self.STILLBORN, two=unproved)
-        self.check_outcome("not told", None, one=same)
+        kept = "rt: one is kept: an earlier run on this machine proved the same files over the same libraries\n"
+        proved = "== two\nlogic=proved functions=1\nrt: two proved\n"
+        tests = "== two: its tests\nlogic=proved functions=2\nrt: two: its tests are proved\n"
+        over = "rt: two NOT PROVED: its library one failed\n"
+
+        def unproved(crate, log, whose=""):
+            return f"== {crate}{whose}\n{log}rt: {crate}{whose}{' are' if whose else ''} NOT PROVED\n"
+
+        self.check_outcome(("accepted",), 0, kept, proved, "1 passed, 0 failed\n")
+        self.check_outcome(("accepted",), 0, kept, tests, proved)
+        self.check_outcome(("accepted",), 1, kept, proved, "rt: FAILED: two (run)\n")
+        self.check_outcome(("not told",), 1, kept, proved, "rt: FAILED: two (tests)\n")
+        self.check_outcome(("not told",), 1, kept, proved, "rt: FAILED: two/some.edit two (run)\n")
+        self.check_outcome(("not told",), 1, kept, proved)
+        self.check_outcome(("not told",), 2, kept, proved, "rt: FAILED: two (run)\n")
+        self.check_outcome(("refused", "two", self.REFUSED), 1, kept, unproved("two", self.REFUSED), "rt: FAILED: two\n")
+        self.check_outcome(("refused", "two", self.REFUSED), 1, kept, unproved("two", self.REFUSED, ": its tests"), proved)
+        self.check_outcome(("refused", "one", self.REFUSED), 1, unproved("one", self.REFUSED), over, "rt: FAILED: one two\n")
+        self.check_outcome(("stillborn",), 1, unproved("one", self.STILLBORN), over)
+        self.check_outcome(("not told",), 1, kept, unproved("two", "rt: run rt fmt in the crate's folder\n"))
+        self.check_outcome(("not told",), None, kept)
 
     def test_the_first_error(self):
-        follows = "/s/crates/one/proofs/A.antt:1:1: error: `a`: `returns` was not admitted, so this cannot be checked\n"
-        self.assertEqual(SCRIPT.first_error(follows + self.REFUSED), ("one/proofs/f/Proof.antt: returns", True))
+        follows = "./proofs/A.antt:1:1: error: `a`: `returns` was not admitted, so this cannot be checked\n"
+        self.assertEqual(SCRIPT.first_error("one", follows + self.REFUSED), ("one/proofs/f/Answers.antt: returns", True))
+
+    def test_a_function_without_a_proof_file(self):
+        note = "note: src/lib.rt:3:4: it is not proved that the sum fits its type (`add-sum`); the facts known there allow no\n"
+        self.assertEqual(SCRIPT.first_error("one", note), ("one/src/lib.rt: add-sum", True))
 
     def test_a_proof_of_another_form(self):
-        form = "/s/crates/one/proofs/f/Proof.antt:2:1: error: `Inv-loop`: this pattern needs a function (or path) type to bind\n"
-        self.assertEqual(SCRIPT.first_error(form + self.REFUSED), ("one/proofs/f/Proof.antt: Inv-loop", False))
+        form = "./proofs/f/Invariants.antt:2:1: error: `invariant-loop`: this pattern needs a function (or path) type to bind\n"
+        self.assertEqual(SCRIPT.first_error("one", form + self.REFUSED), ("one/proofs/f/Invariants.antt: invariant-loop", False))
 
     def test_the_compilers_error(self):
-        self.assertEqual(SCRIPT.first_error(self.STILLBORN), ("one/src/lib.rt:3:4: error[mismatched-types]", True))
+        self.assertEqual(SCRIPT.first_error("one", self.STILLBORN), ("one/src/lib.rt:3:4: error[mismatched-types]", True))
 
     def test_kept_for_as_long_as_the_texts_are_the_same(self):
         first, second = mutants_in("const LESS: usize = 3;\n")
@@ -305,6 +328,12 @@ class Verdicts(unittest.TestCase):
         self.assertEqual([known.of(mutant)["verdict"] for mutant in (first, second)], ["stillborn", "refused"])
         self.assertEqual(known.stillborn([first, second]), {first.name})
         self.assertEqual((edited_since.of(first), edited_since.stillborn([first, second])), (None, set()))
+
+    def test_the_crates_of_a_list(self):
+        with tempfile.TemporaryDirectory() as folder:
+            lines = "# a list\none: # the first\n\ntwo staticlib: one io\nthree may_wait=1: two one\n"
+            Path(folder, "crates.txt").write_text(lines, encoding="utf-8")
+            self.assertEqual(crates_of(Path(folder)), {"one": [], "two": ["one"], "three": ["two", "one"]})
 
     def test_who_uses_a_crate(self):
         crates = {"a": [], "b": ["a"], "c": ["b"], "d": []}

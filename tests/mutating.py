@@ -153,8 +153,8 @@ def mutants_of(crate, path, text, source, known):
 def crates_of(root):
     """The crates of crates.txt, in its order, each with the crates of the repository that it names."""
     lines = [line.partition("#")[0] for line in (root / "crates.txt").read_text(encoding="utf-8").splitlines()]
-    named = dict(line.split(":") for line in lines if line.strip())
-    return {crate.strip(): [word for word in words.split() if word in named] for crate, words in named.items()}
+    named = {head.split()[0]: words.split() for head, _, words in (line.partition(":") for line in lines if line.strip())}
+    return {crate: [word for word in words if word in named] for crate, words in named.items()}
 
 
 def all_mutants(root):

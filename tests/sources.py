@@ -139,6 +139,7 @@ class Reader:
         """Reads an item, or steps over a token that says nothing of it."""
         word, public = self.next().text, self.at > 1 and self.tokens[self.at - 2].text == "pub"
         if word == "#":
+            self.take("!")
             self.skip_group()
         elif word in ("use", "type"):
             self.skip_to(";")

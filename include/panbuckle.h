@@ -1,6 +1,6 @@
 /* Panbuckle from C: the corner points of right-angled shapes become disjoint rectangles, and back.
  *
- * Link with libpanbuckle_c.a, which `rt staticlib panbuckle_c` proves and writes to target/staticlib. It is for x86-64 and the System V
+ * Link with libpanbuckle_c.a, which `rt lib` in crates/panbuckle_c proves and writes to out/ there. It is for x86-64 and the System V
  * calling convention, and needs nothing but memset. The functions keep no state, allocate nothing, call nothing back and end for every
  * input, so that any number of threads may call them at once, each with arrays of its own. They use at most 13 KiB of stack forward, in a step
  * and for a stream file, and 14.5 KiB backward, which is measured and not proved.

@@ -23,8 +23,9 @@ from families import FAMILIES, MOST, REFUSED, family, refused  # noqa: E402
 from streams import AREAS, CORNERS, LAYER, MEGABYTE, STREAMS, WANTED  # noqa: E402
 
 FEW = 64
-# Few rectangles, but as many as take the sort to its depth.
-FEW_RECTANGLES = (1, 40)
+# The fewest points and rectangles that take the sorts to their depth.
+DEEP = 2048
+FEW_RECTANGLES = (1, 28, 40)
 HEADER = ROOT / "include" / "panbuckle.h"
 STACK = re.compile(r"at most ([\d.]+) KiB of stack forward, in a step\s+\*?\s*and for a stream file, and ([\d.]+) KiB backward")
 KIB = 1024
@@ -42,7 +43,7 @@ def outcomes(bench):
         yield None if (int(count), answers) == (MOST, wanted) else f"{name}: answers {answers}, not {wanted}, to {count} points"
     ((_, count, points, *_),) = bench.rows("backward", "16")
     yield None if (count, points) == ("16", "56") else f"backward: {points} points of {count} rectangles, and not 56"
-    yield from stack_faults(most_stack(bench, (FEW,), FEW_RECTANGLES))
+    yield from stack_faults(most_stack(bench, (FEW, DEEP), FEW_RECTANGLES))
 
 
 def stack_faults(measured):

@@ -34,7 +34,7 @@ ERROR = re.compile(r"^(\S+?):\d+:\d+: error: (.*)$", re.MULTILINE)
 # What the prover says of a function that needs no proof file.
 NOT_PROVED = re.compile(r"^note: (\S+?):\d+:\d+: it is not proved that .*?\((`\S+`)\)", re.MULTILINE)
 # Such an error only follows from an earlier one.
-FOLLOWS = "so this cannot be checked"
+FOLLOWS = re.compile(r"so this cannot be checked|which was rejected, (?:and )?w(?:as|ere) not checked")
 # Such an error says that the edited text is no longer Rattle or antt, or that a proof no longer fits the code's shape.
 UNFIT = re.compile(r"not in scope|can be named from here|cannot appear|has no field|binders|[Pp]arse error|syntax")
 
@@ -82,10 +82,11 @@ def fault_of(edit, told):
     if found is None:
         return f"it is refused, and first comes no fact: {told.removeprefix(REFUSED)[:160]}"
     (file, name), (path, message) = said[0], found
+    if FOLLOWS.search(message):
+        return f"what comes first only follows from another error: {path}: {message[:80]}"
     if not (path == file and message.startswith(f"`{name}`")):
         return f"it fails first at {path}: {message[:80]}"
-    unfit = FOLLOWS in message or UNFIT.search(unquoted(message))
-    return f"the edit itself is unfit: {message[:80]}" if unfit else None
+    return f"the edit itself is unfit: {message[:80]}" if UNFIT.search(unquoted(message)) else None
 
 
 # ---- The edits that `rt ci` tries

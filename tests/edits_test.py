@@ -138,8 +138,12 @@ class Judge(Tree):
         self.judge(GOOD_EDIT, told, "it fails first at specs/proofs/Sum.antt: `sum-law`: the two types differ")
 
     def test_an_error_that_only_follows(self):
-        told = GOOD.replace("the two types differ", "`other-law` was not admitted, so this cannot be checked")
-        self.judge(GOOD_EDIT, told, "the edit itself is unfit: `sum-law`: `other-law` was not admitted, so this cannot be checked")
+        for said in (
+            "`sum-law`: `other-law` was not admitted, so this cannot be checked",
+            "3 declarations that depend on `other-law`, which was rejected, were not checked: sum-law",
+        ):
+            told = GOOD.replace("`sum-law`: the two types differ", said)
+            self.judge(GOOD_EDIT, told, f"what comes first only follows from another error: proofs/Sum.antt: {said[:80]}")
 
     def test_refused_in_a_function_without_a_proof_file(self):
         edit = GOOD_EDIT.replace("proofs/Sum.antt: sum-law", "src/lib.rt: add-sum")

@@ -226,7 +226,8 @@ def archived():
 
 def made():
     """Whether the archive is there; this script may have made it of the same sources."""
-    sources = [ROOT / "crates.txt", *(source for part in PARTS for source in ROOT.glob(f"crates/*/{part}/**/*"))]
+    sources = [ROOT / "crates.txt", *(source for part in PARTS for source in ROOT.glob(f"crates/*/{part}/**"))]
+    sources += [source for part in PARTS for source in ROOT.glob(f"crates/*/{part}/**/*")]
     fresh = ARCHIVE.exists() and all(source.stat().st_mtime < ARCHIVE.stat().st_mtime for source in sources)
     return fresh or archived()
 

@@ -173,6 +173,9 @@ class Gate(unittest.TestCase):
     def test_all_edits_are_bad(self):
         self.check(GOOD.replace("5 refused", "0 refused, 5 bad"), 0, 7, 5)
 
+    def test_no_word_of_the_edits(self):
+        self.check("rt: ok; handles allowed: none\n7 passed, 0 failed\n", 0, 7, 1)
+
     def test_what_fails(self):
         self.check("rt: FAILED: plane\n6 passed, 1 failed\n", 1, 6, 1)
 

@@ -3,7 +3,7 @@
 
 ghost use Rattle.io.specs.Counts.{IsPrefixLen};
 
-use std::io::{Print, Read, Stderr, Stdin};
+use std::io::{Print, Read, Stdin};
 
 // How many bytes were read, and whether a read failed.
 #[derive(Clone, Copy)]

@@ -9,7 +9,7 @@ ghost use Rattle.std.specs.Bool.{xor};
 ghost use Rattle.plane.specs.Lists.{bit, keep, at_start};
 ghost use Rattle.plane.specs.Words.{same, eq_z, points_of, most_cells};
 ghost use Rattle.boundaries.specs.Boundary.{edge, vertical, boundary_corners};
-ghost use Rattle.boundaries.specs.Inner.{last_vertical, corners_by};
+ghost use Rattle.boundaries.specs.Inner.{last_vertical};
 ghost use Rattle.records.specs.Records.{head_size, treatment_of};
 ghost use Rattle.gdsii.specs.Walk.{vertex_size, vertex_at, vertices, same_name, layer_in, by_shape, moved, act, judge, start, read_from, read_all};
 ghost use Rattle.gdsii.specs.Call.{scratch_size, ReadDone};

@@ -1,4 +1,4 @@
--- `drawing::fill` meets its contract. The invariant: the template is filled up to place i.
+-- `drawing::fill` meets its contract.
 use native.Mathlib.Omega.{arith}
 use Rattle.drawing.proofs.Filling.{fill-first, fill-last, fill-keeps, piece-fits, fill-next}
 use Rattle.drawing.proofs.fill.Goals as goal

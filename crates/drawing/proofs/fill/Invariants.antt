@@ -1,4 +1,4 @@
--- `drawing::fill` meets its contract. The invariant: the template is filled up to place i.
+-- The invariant of `drawing::fill`: the template is filled up to place i.
 use Prim.Native.Nat.{◌-◌}
 use lib.ListN.{length}
 use Rattle.drawing.proofs.Filling.{Filling}

@@ -1,4 +1,4 @@
--- `drawing::frame_of` meets its contract: widened by the points that are left, the frame is that of all.
+-- `drawing::frame_of` meets its contract.
 use native.Mathlib.Omega.{arith}
 use mathlib.Core.Path.{sym, ◌∙◌}
 use mathlib.Core.List.{List}

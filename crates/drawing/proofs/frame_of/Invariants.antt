@@ -1,4 +1,4 @@
--- `drawing::frame_of` meets its contract: widened by the points that are left, the frame is that of all.
+-- The invariant of `drawing::frame_of`: widened by the points that are left, the frame is that of all.
 use Prim.Native.Nat.{◌-◌, ◌≤◌}
 use mathlib.Core.Path.{◌≡◌}
 use lib.ListN.{drop}

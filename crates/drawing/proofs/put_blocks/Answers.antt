@@ -1,4 +1,4 @@
--- `drawing::put_blocks` meets its contract: the blocks of the rectangles passed are written, each in at most 160 bytes.
+-- `drawing::put_blocks` meets its contract.
 use native.Mathlib.Numerals.{add-one}
 use native.Mathlib.Omega.{arith}
 use mathlib.Core.Path.{◌≡◌, refl, ◌∙◌}

@@ -1,4 +1,4 @@
--- `drawing::put_blocks` meets its contract: the blocks of the rectangles passed are written, each in at most 160 bytes.
+-- The invariant of `drawing::put_blocks`: the blocks of the rectangles passed are written, each in at most 160 bytes.
 use Prim.Native.Nat.{◌+◌, ◌-◌, ◌*◌, ◌≤◌}
 use mathlib.Core.Path.{◌≡◌}
 use lib.ListN.{length, take}

@@ -1,4 +1,4 @@
--- `drawing::put_dots` meets its contract: the dots of the points passed are written, each in at most 62 bytes.
+-- `drawing::put_dots` meets its contract.
 use native.Mathlib.Numerals.{add-one}
 use native.Mathlib.Omega.{arith}
 use mathlib.Core.Path.{◌≡◌, refl, sym, ◌∙◌}

@@ -1,4 +1,4 @@
--- `drawing::put_dots` meets its contract: the dots of the points passed are written, each in at most 62 bytes.
+-- The invariant of `drawing::put_dots`: the dots of the points passed are written, each in at most 62 bytes.
 use Prim.Native.Nat.{◌+◌, ◌-◌, ◌*◌, ◌≤◌}
 use mathlib.Core.Path.{◌≡◌}
 use lib.ListN.{length, take}

@@ -1,4 +1,4 @@
--- `drawing::stands` meets its contract. The invariant: `odd` is the parity of p among the first i points.
+-- `drawing::stands` meets its contract.
 use native.Mathlib.Omega.{arith}
 use mathlib.Core.Path.{refl}
 use mathlib.Core.Bool.{xor}

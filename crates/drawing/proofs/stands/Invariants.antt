@@ -1,4 +1,4 @@
--- `drawing::stands` meets its contract. The invariant: `odd` is the parity of p among the first i points.
+-- The invariant of `drawing::stands`: `odd` is the parity of p among the first i points.
 use Prim.Native.Nat.{◌≤◌, ◌-◌}
 use mathlib.Core.Path.{◌≡◌}
 use lib.ListN.{take}

@@ -1,4 +1,4 @@
--- `gdsii::clear` meets its contract. The invariant: the first i numbers are 0, and the others as they were.
+-- `gdsii::clear` meets its contract.
 use Prim.Native.Nat.{ℕ}
 use native.Mathlib.Omega.{arith}
 use mathlib.Core.Path.{◌≡◌, ap, ◌∙◌}

@@ -1,4 +1,4 @@
--- `gdsii::clear` meets its contract. The invariant: the first i numbers are 0, and the others as they were.
+-- The invariant of `gdsii::clear`: the first i numbers are 0, and the others as they were.
 use Prim.Native.Nat.{◌-◌, ◌≤◌}
 use mathlib.Core.Path.{◌≡◌}
 use lib.ListN.{length, replicate}

@@ -1,4 +1,4 @@
--- `gdsii::copy` meets its contract. The invariant: the first i numbers are copied, and nothing else has changed.
+-- `gdsii::copy` meets its contract.
 use Prim.Native.Nat.{ℕ, suc, ◌<◌, ◌≤◌}
 use native.Mathlib.Nat.{zero-add}
 use native.Mathlib.Numerals.{add-one}

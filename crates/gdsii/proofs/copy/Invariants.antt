@@ -1,4 +1,4 @@
--- `gdsii::copy` meets its contract. The invariant: the first i numbers are copied, and nothing else has changed.
+-- The invariant of `gdsii::copy`: the first i numbers are copied, and nothing else has changed.
 use Prim.Native.Nat.{◌-◌, ◌≤◌}
 use mathlib.Core.Path.{◌≡◌}
 use lib.ListN.{length}

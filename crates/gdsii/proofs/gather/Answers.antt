@@ -1,4 +1,4 @@
--- `gdsii::gather` meets its contract. The invariant: what is gathered of the rest of the walk, after what was gathered, is what is gathered of all.
+-- `gdsii::gather` meets its contract.
 use Prim.Native.Nat.{ℕ, ◌+◌, ◌*◌, ◌≤◌}
 use native.Mathlib.Omega.{arith}
 use mathlib.Core.Path.{◌≡◌, refl, sym, ap, ap₂, subst, ◌∙◌}

@@ -1,4 +1,4 @@
--- `gdsii::gather` meets its contract. The invariant: what is gathered of the rest of the walk, after what was gathered, is what is gathered of all.
+-- The invariant of `gdsii::gather`: what is gathered of the rest of the walk, after what was gathered, is what is gathered of all.
 use Prim.Native.Nat.{ℕ, ◌-◌, ◌*◌, ◌≤◌}
 use mathlib.Core.Path.{◌≡◌}
 use mathlib.Core.List.{List}

@@ -1,4 +1,4 @@
--- `gdsii::last_vertical` meets its contract.
+-- The invariant and the measure of `gdsii::last_vertical`.
 use Prim.Native.Nat.{◌-◌, ◌≤◌}
 use mathlib.Core.Path.{◌≡◌}
 use mathlib.Core.Bool.{false}

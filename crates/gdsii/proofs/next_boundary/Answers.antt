@@ -1,4 +1,4 @@
--- `gdsii::next_boundary` meets its contract. The invariant: the walk from the cursor is the walk from the first.
+-- `gdsii::next_boundary` meets its contract.
 use Prim.Native.Nat.{ℕ, ◌≤◌}
 use native.Mathlib.Omega.{arith}
 use mathlib.Core.Path.{refl, sym, ◌∙◌}

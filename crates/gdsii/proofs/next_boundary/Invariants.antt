@@ -1,4 +1,4 @@
--- `gdsii::next_boundary` meets its contract. The invariant: the walk from the cursor is the walk from the first.
+-- The invariant of `gdsii::next_boundary`: the walk from the cursor is the walk from the first.
 use Prim.Native.Nat.{◌-◌, ◌≤◌}
 use mathlib.Core.Path.{◌≡◌}
 use lib.ListN.{length, drop}

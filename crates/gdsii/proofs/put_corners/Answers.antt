@@ -1,4 +1,4 @@
--- `gdsii::put_corners` meets its contract. The invariant: the corners put so far and those of the rest are all of them.
+-- `gdsii::put_corners` meets its contract.
 use Prim.Native.Nat.{ℕ, ◌+◌}
 use native.Mathlib.Omega.{arith}
 use mathlib.Core.Path.{◌≡◌, sym, ap, ◌∙◌}

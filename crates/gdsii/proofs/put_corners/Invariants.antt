@@ -1,4 +1,4 @@
--- `gdsii::put_corners` meets its contract. The invariant: the corners put so far and those of the rest are all of them.
+-- The invariant of `gdsii::put_corners`: the corners put so far and those of the rest are all of them.
 use Prim.Native.Nat.{ℕ, ◌+◌, ◌-◌, ◌≤◌, ◌<◌}
 use mathlib.Core.Path.{◌≡◌}
 use mathlib.Core.Bool.{false}

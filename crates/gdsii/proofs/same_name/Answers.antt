@@ -1,4 +1,4 @@
--- `gdsii::same_name` meets its contract. The invariant: what is left of the names is the same exactly when they are.
+-- `gdsii::same_name` meets its contract.
 use native.Mathlib.Omega.{arith}
 use mathlib.Core.Path.{refl, sym, ◌∙◌}
 use mathlib.Core.Logic.{⊎_elim}

@@ -1,4 +1,4 @@
--- `gdsii::same_name` meets its contract. The invariant: what is left of the names is the same exactly when they are.
+-- The invariant of `gdsii::same_name`: what is left of the names is the same exactly when they are.
 use Prim.Native.Nat.{◌+◌, ◌-◌}
 use mathlib.Core.Path.{◌≡◌}
 use lib.ListN.{length, drop}

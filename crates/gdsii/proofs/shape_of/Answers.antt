@@ -1,4 +1,4 @@
--- `gdsii::shape_of` meets its contract. The invariant: what is left of the path, with what was seen of it, is as open and as slanted as all of it.
+-- `gdsii::shape_of` meets its contract.
 use Prim.Native.Nat.{◌+◌}
 use native.Mathlib.Omega.{arith}
 use mathlib.Core.Path.{◌≡◌, sym, ap, ◌∙◌}

@@ -1,4 +1,4 @@
--- `gdsii::shape_of` meets its contract. The invariant: what is left of the path, with what was seen of it, is as open and as slanted as all of it.
+-- The invariant of `gdsii::shape_of`: what is left of the path, with what was seen of it, is as open and as slanted as all of it.
 use Prim.Native.Nat.{◌-◌, ◌≤◌}
 use Rattle.gdsii.specs.Inner.{rest}
 use Rattle.gdsii.proofs.Vertices.{Along}

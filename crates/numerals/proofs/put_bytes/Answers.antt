@@ -1,4 +1,4 @@
--- `numerals::put_bytes` meets its contract. The invariant: there is room, the first i bytes are put, and nothing else has changed.
+-- `numerals::put_bytes` meets its contract.
 use Prim.Native.Nat.{◌+◌}
 use native.Mathlib.Numerals.{add-one}
 use native.Mathlib.Omega.{arith}

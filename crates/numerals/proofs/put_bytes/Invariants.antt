@@ -1,4 +1,4 @@
--- `numerals::put_bytes` meets its contract. The invariant: there is room, the first i bytes are put, and nothing else has changed.
+-- The invariant of `numerals::put_bytes`: there is room, the first i bytes are put, and nothing else has changed.
 use Prim.Native.Nat.{◌+◌, ◌-◌, ◌≤◌}
 use mathlib.Core.Path.{◌≡◌}
 use lib.ListN.{length}

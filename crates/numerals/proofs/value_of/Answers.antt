@@ -1,4 +1,4 @@
--- `numerals::value_of` meets its contract. The invariant: the value so far and the bytes left have the value of all, and are digits just if all are.
+-- `numerals::value_of` meets its contract.
 use Prim.Native.Nat.{ℕ, ◌<◌}
 use native.Mathlib.Nat.{pow-suc, pow-le-pow_right}
 use native.Mathlib.Numerals.{add-one}

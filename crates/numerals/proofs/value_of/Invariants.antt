@@ -1,4 +1,4 @@
--- `numerals::value_of` meets its contract. The invariant: the value so far and the bytes left have the value of all, and are digits just if all are.
+-- The invariant of `numerals::value_of`: the value so far and the bytes left have the value of all, and are digits just if all are.
 use Prim.Native.Nat.{◌≤◌, ◌<◌, ◌-◌, ◌^◌}
 use mathlib.Core.Path.{◌≡◌}
 use lib.ListN.{length, drop}

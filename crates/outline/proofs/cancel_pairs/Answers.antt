@@ -1,4 +1,4 @@
--- `outline::cancel_pairs` meets its contract. The invariant: of the keys before i those that are left are at the start.
+-- `outline::cancel_pairs` meets its contract.
 use Prim.Native.Nat.{◌+◌, ◌<◌}
 use native.Mathlib.Omega.{arith}
 use mathlib.Core.Path.{sym, ◌∙◌}

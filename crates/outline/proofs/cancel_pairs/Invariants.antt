@@ -1,4 +1,4 @@
--- `outline::cancel_pairs` meets its contract. The invariant: of the keys before i those that are left are at the start.
+-- The invariant of `outline::cancel_pairs`: of the keys before i those that are left are at the start.
 use Prim.Native.Nat.{◌-◌}
 use lib.Dec.{eqb}
 use Rattle.plane.proofs.Pairs.{Drops}

@@ -1,4 +1,4 @@
--- `outline::first_bad` meets its contract. The invariant: no rectangle before place i offends.
+-- `outline::first_bad` meets its contract.
 use native.Mathlib.Omega.{arith}
 use mathlib.Core.Path.{◌≡◌, ap, sym, ◌∙◌}
 use borrow.Author.Rules.{rules}

@@ -1,4 +1,4 @@
--- `outline::first_bad` meets its contract. The invariant: no rectangle before place i offends.
+-- The invariant of `outline::first_bad`: no rectangle before place i offends.
 use Prim.Native.Nat.{◌≤◌, ◌-◌}
 use Rattle.plane.specs.Words.{rects_of, rect_at}
 use Rattle.entry.proofs.Search.{NoneBelow}

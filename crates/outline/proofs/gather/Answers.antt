@@ -1,4 +1,4 @@
--- `outline::gather` meets its contract. The invariant: the batch gathers all corners, with those of the rectangles from place i on to come.
+-- `outline::gather` meets its contract.
 use native.Mathlib.Omega.{arith}
 use mathlib.Core.Path.{refl, ◌∙◌}
 use mathlib.Core.List.{Memᴰ as In}

@@ -1,4 +1,4 @@
--- `outline::gather` meets its contract. The invariant: the batch gathers all corners, with those of the rectangles from place i on to come.
+-- The invariant of `outline::gather`: the batch gathers all corners, with those of the rectangles from place i on to come.
 use Prim.Native.Nat.{◌<◌, ◌≤◌, ◌-◌}
 use mathlib.Core.Path.{◌≡◌}
 use lib.ListN.{length, take, drop}

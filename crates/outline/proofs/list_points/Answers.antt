@@ -1,4 +1,4 @@
--- `outline::list_points` meets its contract. The invariant: the points with keys below `start` are listed, and written if asked.
+-- `outline::list_points` meets its contract.
 use Prim.Native.Nat.{◌+◌, ◌*◌, ◌≤◌}
 use native.Mathlib.Omega.{arith}
 use mathlib.Core.Path.{◌≡◌, refl, sym, ◌∙◌}

@@ -1,4 +1,4 @@
--- `outline::list_points` meets its contract. The invariant: the points with keys below `start` are listed, and written if asked.
+-- The invariant of `outline::list_points`: the points with keys below `start` are listed, and written if asked.
 use Prim.Native.Nat.{ℕ, ◌-◌, ◌<◌, ◌≤◌}
 use mathlib.Core.Path.{◌≡◌}
 use mathlib.Core.Bool.{Bool, cond}

@@ -1,4 +1,4 @@
--- `outline::put_points` meets its contract. The invariant: the points of the first i keys are written.
+-- `outline::put_points` meets its contract.
 use Prim.Native.Nat.{ℕ, suc, ◌+◌, ◌<◌, ◌≤◌}
 use native.Mathlib.Numerals.{add-one}
 use native.Mathlib.Omega.{arith}

@@ -1,4 +1,4 @@
--- `outline::put_points` meets its contract. The invariant: the points of the first i keys are written.
+-- The invariant of `outline::put_points`: the points of the first i keys are written.
 use Prim.Native.Nat.{◌-◌, ◌≤◌}
 use mathlib.Core.Path.{◌≡◌}
 use lib.ListN.{length, take}

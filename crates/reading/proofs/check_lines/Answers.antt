@@ -1,4 +1,4 @@
--- `reading::check_lines` meets its contract. The invariant: it is at a line's place, and no line before it is bad.
+-- `reading::check_lines` meets its contract.
 use native.Mathlib.Omega.{arith}
 use mathlib.Core.Path.{◌≡◌, sym, ◌∙◌}
 use lib.ListN.{length}

@@ -1,4 +1,4 @@
--- `reading::check_lines` meets its contract. The invariant: it is at a line's place, and no line before it is bad.
+-- The invariant of `reading::check_lines`: it is at a line's place, and no line before it is bad.
 use Prim.Native.Nat.{◌-◌}
 use lib.ListN.{length}
 use Rattle.entry.proofs.Search.{NoneBelow}

@@ -1,4 +1,4 @@
--- `reading::find` meets its contract. The invariant: the byte is not among the first i.
+-- `reading::find` meets its contract.
 use native.Mathlib.Omega.{arith}
 use lib.ListN.{drop, length-drop}
 use borrow.Author.Rules.{rules}

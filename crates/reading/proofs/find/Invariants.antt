@@ -1,4 +1,4 @@
--- `reading::find` meets its contract. The invariant: the byte is not among the first i.
+-- The invariant of `reading::find`: the byte is not among the first i.
 use Prim.Native.Nat.{◌≤◌, ◌+◌, ◌-◌}
 use mathlib.Core.Path.{◌≡◌}
 use lib.ListN.{length, drop}

@@ -19,7 +19,7 @@ use Rattle.reading.specs.Inner.{parsed, line_says, next_line, line_from}
 use Rattle.plane.proofs.AtPlace.{part-rest}
 use Rattle.reading.proofs.Lines.{first_line, first-line, take-before}
 use Rattle.reading.proofs.read_line.Goals as goal
-use Rattle.reading.proofs.read_line.Goals.{After-find-end, After-parse, After-rest-1, Start}
+use Rattle.reading.proofs.read_line.Goals.{After-find-end, After-parse, Start}
 
 -- what the code says of a line, by what it says of its bytes
 says-good : (o : Option Point) (n : ℕ) {p : Point} → parsed o ≡ Good p → Read p n ≡ line_says o n

@@ -1,4 +1,4 @@
--- `reading::write_points` meets its contract. The invariant: it is at a line's place, and the points of the lines before are written.
+-- `reading::write_points` meets its contract.
 use Prim.Native.Nat.{◌+◌, ◌*◌, ◌<◌}
 use native.Mathlib.Omega.{arith}
 use mathlib.Core.Path.{◌≡◌, refl, sym, ◌∙◌}

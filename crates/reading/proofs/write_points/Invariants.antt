@@ -1,4 +1,4 @@
--- `reading::write_points` meets its contract. The invariant: it is at a line's place, and the points of the lines before are written.
+-- The invariant of `reading::write_points`: it is at a line's place, and the points of the lines before are written.
 use Prim.Native.Nat.{◌-◌}
 use mathlib.Core.Path.{◌≡◌}
 use lib.ListN.{length, take}

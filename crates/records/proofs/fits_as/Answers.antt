@@ -1,5 +1,4 @@
 -- `records::fits_as` meets its contract.
-use borrow.Author.Rules.{rules}
 use borrow.Author.Tests.{eq-eqb, ne_eqb}
 use Rattle.records.proofs.fits_as.Goals as goal
 
@@ -8,9 +7,6 @@ returns-then-unit-eq-NONE c = rw (eq-eqb c.args.unit 255 c.if-unit-eq-NONE.true)
 
 pub returns-then-unit-eq0 : goal.returns-then-unit-eq0
 returns-then-unit-eq0 c = let u = c.args.unit in rw (ne_eqb u 255 c.if-unit-eq-NONE.false, eq-eqb u 0 c.if-unit-eq0.true)
-
-pub nonzero_rem-result : goal.nonzero_rem-result
-nonzero_rem-result c = search rules
 
 pub returns : goal.returns
 returns c = let u = c.args.unit in rw (ne_eqb u 255 c.if-unit-eq-NONE.false, ne_eqb u 0 c.if-unit-eq0.false)

@@ -1,4 +1,4 @@
--- `records::follow` meets its contract. The invariant: what the row that it is at leads to is what the first row leads to.
+-- `records::follow` meets its contract.
 use Prim.Native.Nat.{ℕ, ◌<◌, ◌-◌}
 use native.Mathlib.Omega.{arith}
 use mathlib.Core.Path.{◌≡◌, refl, sym, ap, ◌∙◌}

@@ -1,4 +1,4 @@
--- `records::follow` meets its contract. The invariant: what the row that it is at leads to is what the first row leads to.
+-- The invariant of `records::follow`: what the row that it is at leads to is what the first row leads to.
 use Prim.Native.Nat.{◌<◌, ◌-◌}
 use mathlib.Core.Path.{◌≡◌}
 use mathlib.Core.Bool.{cond}

@@ -1,4 +1,4 @@
--- `sweep::drop_pairs` meets its contract. The invariant: of the places before i those that stand are at the start.
+-- `sweep::drop_pairs` meets its contract.
 use Prim.Native.Nat.{◌+◌, ◌<◌}
 use native.Mathlib.Omega.{arith}
 use mathlib.Core.Path.{sym, ◌∙◌}
@@ -10,7 +10,7 @@ use Rattle.plane.proofs.Pairs.{Drops, drops-from, drops-both, drops-one, drops-a
 use Rattle.entry.proofs.Search.{none_before}
 use Rattle.sweep.specs.Inner.{same_place}
 use Rattle.sweep.proofs.drop_pairs.Goals as goal
-use Rattle.sweep.proofs.drop_pairs.Goals.{At-loop-i, In-loop-i, Then-is_paired}
+use Rattle.sweep.proofs.drop_pairs.Goals.{In-loop-i, Then-is_paired}
 
 pub loop-i-init : goal.loop-i-init
 loop-i-init c =

@@ -1,4 +1,4 @@
--- `sweep::drop_pairs` meets its contract. The invariant: of the places before i those that stand are at the start.
+-- The invariant of `sweep::drop_pairs`: of the places before i those that stand are at the start.
 use Prim.Native.Nat.{◌-◌}
 use Rattle.plane.specs.Words.{points_of}
 use Rattle.plane.proofs.Pairs.{Drops}

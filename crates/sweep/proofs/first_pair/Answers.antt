@@ -1,4 +1,4 @@
--- `sweep::first_pair` meets its contract. The invariant: no place before i is paired with the next one.
+-- `sweep::first_pair` meets its contract.
 use Prim.Native.Nat.{ℕ, ◌+◌, ◌≤◌}
 use native.Mathlib.Omega.{arith}
 use mathlib.Core.Path.{◌≡◌, refl, sym, ◌∙◌}

@@ -1,4 +1,4 @@
--- `sweep::first_pair` meets its contract. The invariant: no place before i is paired with the next one.
+-- The invariant of `sweep::first_pair`: no place before i is paired with the next one.
 use Prim.Native.Nat.{◌-◌, ◌≤◌}
 use Rattle.plane.specs.Words.{points_of}
 use Rattle.plane.specs.Swaps.{paired_at}

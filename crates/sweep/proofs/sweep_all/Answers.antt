@@ -1,4 +1,4 @@
--- `sweep::sweep_all` meets its contract. The invariant is `Making`; the measure is what is to come of the sweep.
+-- `sweep::sweep_all` meets its contract.
 use native.Mathlib.Omega.{arith}
 use mathlib.Core.Path.{◌∙◌}
 use lib.ListN.{length-map}

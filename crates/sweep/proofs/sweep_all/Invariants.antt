@@ -1,4 +1,4 @@
--- `sweep::sweep_all` meets its contract. The invariant is `Making`; the measure is what is to come of the sweep.
+-- The invariant of `sweep::sweep_all` is `Making`; the measure is what is to come of the sweep.
 use Rattle.sweep.specs.Inner.{swept_points, to_come}
 use Rattle.sweep.proofs.Making.{Making}
 use Rattle.sweep.proofs.sweep_all.Given as goal

@@ -1,4 +1,4 @@
--- `sweep::turn` meets its contract. The invariant: all passed, but for the first ones, are moved before those ahead.
+-- `sweep::turn` meets its contract.
 use Prim.Native.Nat.{◌-◌}
 use native.Mathlib.Omega.{arith}
 use mathlib.Core.Path.{sym, ap, ◌∙◌}

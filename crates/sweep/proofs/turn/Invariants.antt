@@ -1,4 +1,4 @@
--- `sweep::turn` meets its contract. The invariant: all passed, but for the first ones, are moved before those ahead.
+-- The invariant of `sweep::turn`: all passed, but for the first ones, are moved before those ahead.
 use Rattle.sweep.proofs.Turning.{Turning}
 use Rattle.sweep.proofs.turn.Given as goal
 

@@ -1,4 +1,4 @@
--- `sweep::zero_start` meets its contract. The invariant: the first i numbers are 0, and the others as they were.
+-- The invariant of `sweep::zero_start`: the first i numbers are 0, and the others as they were.
 use Prim.Native.Nat.{◌-◌, ◌≤◌}
 use mathlib.Core.Path.{◌≡◌}
 use lib.ListN.{length}

@@ -1,4 +1,4 @@
--- `text::put_rects` meets its contract: the lines of the rectangles passed are written.
+-- `text::put_rects` meets its contract.
 use Prim.Native.Nat.{ℕ, ◌+◌, ◌≤◌}
 use native.Mathlib.Numerals.{add-one}
 use native.Mathlib.Omega.{arith}

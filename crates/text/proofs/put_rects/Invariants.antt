@@ -1,4 +1,4 @@
--- `text::put_rects` meets its contract: the lines of the rectangles passed are written.
+-- The invariant of `text::put_rects`: the lines of the rectangles passed are written.
 use Prim.Native.Nat.{◌-◌, ◌≤◌}
 use lib.ListN.{take}
 use Rattle.plane.specs.Words.{rects_of}

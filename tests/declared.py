@@ -15,10 +15,14 @@ ANTT_DECLARATION = re.compile(
     rf"|({ANTT_NAME})(?:[ \t]+|[ \t]*\{{[^}}\n]*\}}[ \t]*):(?!\S))",
     re.MULTILINE,
 )
-RT_DECLARATION = re.compile(r"\b(?:fn|struct|enum|const)\s+(\w+)")
+RT_DECLARATION = re.compile(r"\b(?:fn|struct|enum|trait|const)\s+(\w+)")
+RT_ENUM = re.compile(r"\benum\s+\w+[^{;]*\{(.*?)^\}", re.MULTILINE | re.DOTALL)
+RT_CASE = re.compile(r"^    (\w+)", re.MULTILINE)
 RT_PUBLIC_FUNCTION = re.compile(r'\bpub\s+(?:(?:const|unsafe|extern|"C")\s+)*fn\s+(\w+)[^(]*')
-# After a function's parameters: a clause of its contract, which may have a name, or its body.
-RT_CLAUSE_OR_BODY = re.compile(r"(?:\b(requires|ensures)\b\*?\s*(?:\w+\s*)?)?\{")
+RT_PUBLIC_TRAIT = re.compile(r"\bpub\s+trait\s+\w[^{]*\{")
+RT_FUNCTION = re.compile(r"\bfn\b")
+# After a function's parameters: a clause of its contract, which may have a name, or its body, or the `;` of a trait's function, outside of a type.
+RT_CLAUSE_OR_BODY = re.compile(r"(?:\b(requires|ensures)\b\*?\s*(?:\w+\s*)?)?\{|;(?![^\[\n]*\])")
 BRACKET = re.compile(r"[(){}\[\]]")
 
 
@@ -49,8 +53,10 @@ def antt_names(text):
 
 
 def rt_names(text):
-    """The functions, types and constants of a Rattle file."""
-    return set(RT_DECLARATION.findall(without_comments(text, RT_COMMENT)))
+    """The functions, types, traits and constants of a Rattle file, and the cases of its enums."""
+    plain = without_comments(text, RT_COMMENT)
+    cases = [case for body in RT_ENUM.findall(plain) for case in RT_CASE.findall(body)]
+    return {*RT_DECLARATION.findall(plain), *cases}
 
 
 def python_names(text):
@@ -102,8 +108,18 @@ def function_at(text, head):
     )
 
 
+def with_trait_methods(text):
+    """The source with `pub` before each function of a public trait, which is as public as the trait is."""
+    parts, end = [], 0
+    for head in RT_PUBLIC_TRAIT.finditer(text):
+        closing = group_end(text, head.end() - 1)
+        parts += [text[end : head.end()], RT_FUNCTION.sub("pub fn", text[head.end() : closing])]
+        end = closing
+    return "".join([*parts, text[end:]])
+
+
 def public_functions(text):
-    """The public functions and methods of a Rattle file, by name."""
-    plain = without_comments(text, RT_COMMENT)
+    """The public functions and methods of a Rattle file, by name, those of its public traits among them."""
+    plain = with_trait_methods(without_comments(text, RT_COMMENT))
     functions = [function_at(plain, head) for head in RT_PUBLIC_FUNCTION.finditer(plain)]
     return sorted(functions, key=lambda function: function.name)

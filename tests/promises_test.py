@@ -362,6 +362,11 @@ class Contracts(CheckerCase):
         code = GOOD_OTHER_SOURCE + "impl Point { pub fn first() -> u8 { 1 } }\n"
         self.assert_fault({OTHER_SOURCE: code}, f"{OTHER_SOURCE}: the public function has no `ensures`: first")
 
+    def test_methods_of_traits(self):
+        code = GOOD_OTHER_SOURCE + "pub trait Seen { fn first() -> u8; }\n"
+        self.assert_fault({OTHER_SOURCE: code}, f"{OTHER_SOURCE}: the public function has no `ensures`: first")
+        self.assert_passes({OTHER_SOURCE: code.replace("pub trait", "trait")})
+
     def test_requires(self):
         self.assert_function_fault(("-> u8\n", "-> u8 requires { 1 < 2 }\n"), "has a `requires`: first")
 

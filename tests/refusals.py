@@ -1,7 +1,7 @@
-"""Holds the refusals to each other wherever they stand. A refusal's number is a constant of the source, and its words are a row of
-README.md's table. Checked is that
+"""Holds the refusals to each other wherever they stand. A refusal is a case of the source's enum, with its number, and its words
+are a row of README.md's table. Checked is that
 
-- the source and README's table have the same names and numbers, which rise by one from 0;
+- the source and README's table have the same names and numbers, which rise by one from 0, for none;
 - the header's enum of answers is what --write makes of them, and no line of the header is too long;
 - docs/OPERATORS.md has a section or a row of its table for each refusal, and for no other;
 - the second implementation has README's names and numbers;
@@ -23,7 +23,7 @@ from counting import report
 from pages import table_rows
 from promises import README, Tally, parse_refusals
 
-# The public constants of u32 in this file are the answers' numbers.
+# The cases of this file's enum of reasons are the refusals, with their numbers.
 SOURCE = "crates/entry/src/lib.rt"
 HEADER = "include/panbuckle.h"
 OPERATORS = "docs/OPERATORS.md"
@@ -34,7 +34,9 @@ ORDERS_HEADER = ["Function", "Order of its checks"]
 LIBRARY_HEADER = ["No.", "Name", "What it means", "What to do", "Example"]
 LONGEST_LINE = 150
 
-CONSTANT = re.compile(r"^pub const (\w+): u32 = (\d+);", re.MULTILINE)
+REASONS = re.compile(r"^pub enum Reason \{\n(.*?)^\}\n", re.MULTILINE | re.DOTALL)
+REASON = re.compile(r"^    (\w+) = (\d+),$", re.MULTILINE)
+INNER_CAPITAL = re.compile(r"(?<!^)(?=[A-Z])")
 ENUM = re.compile(r"^enum \{\n    PANBUCKLE_DONE = .*?^\};\n", re.MULTILINE | re.DOTALL)
 SECTION = re.compile(r"^### (\d+) (\w+):", re.MULTILINE)
 # In an order: what is said of a check after its name, and a break of lines in a comment of C.
@@ -60,13 +62,18 @@ def rows_of(readme):
 
 
 def numbers_of(rows):
-    """The numbers by name, written as the source does."""
+    """The numbers by name."""
     return {row.name.upper(): row.number for row in rows}
+
+
+def reasons_of(code):
+    """The numbers of the source's reasons by name, written as README does."""
+    return {INNER_CAPITAL.sub("_", name).upper(): number for body in REASONS.findall(code) for name, number in REASON.findall(body)}
 
 
 def source_faults(code, rows):
     """For each name of the source or README what is wrong with its number, or None; and the same for their rise."""
-    yield from faults_of(SOURCE, numbers_of(rows), dict(CONSTANT.findall(code)))
+    yield from faults_of(SOURCE, numbers_of(rows[1:]), reasons_of(code))
     rising = rows and all(row.number == str(place) for place, row in enumerate(rows))
     yield None if rising else f"{README}: the numbers of the refusals do not rise by one from 0"
 

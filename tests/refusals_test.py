@@ -32,11 +32,14 @@ GOOD_README = """\
 """
 
 GOOD_SOURCE = """\
-pub const DONE: u32 = 0;
-pub const LENGTH: u32 = 1;
-pub const MANY: u32 = 2;
-pub const TEXT: u32 = 3;
-pub const MOST: usize = 9;
+pub enum Reason {
+    Length = 1,
+    Many = 2,
+    Text = 3,
+}
+pub enum Other {
+    Most = 9,
+}
 """
 
 GOOD_HEADER = """\
@@ -90,7 +93,7 @@ GOOD_TREE = {
 
 # Of the good tree: 4 names of the source and their rise; the header's enum and lines; 3 refusals for operators; 4 names of the second
 # implementation and its list; the program's order, that there are others, and 2 of them in 3 places.
-GOOD_COUNT = (4 + 1) + 2 + 3 + (4 + 1) + (1 + 1 + 2 * 3)
+GOOD_COUNT = (3 + 1) + 2 + 3 + (4 + 1) + (1 + 1 + 2 * 3)
 
 
 def run_checker(tree, *words):
@@ -139,16 +142,16 @@ class Numbers(CheckerCase):
         self.assertEqual((lines, status, header), ([f"{GOOD_COUNT} passed, 0 failed"], 0, GOOD_HEADER))
 
     def test_number_of_the_source(self):
-        self.assert_unlike((SOURCE, "MANY: u32 = 2", "MANY: u32 = 4"), (SOURCE, "4", "MANY", "2"))
+        self.assert_unlike((SOURCE, "Many = 2", "Many = 4"), (SOURCE, "4", "MANY", "2"))
 
     def test_name_missing_in_the_source(self):
-        self.assert_unlike((SOURCE, "pub const MANY: u32 = 2;\n", ""), (SOURCE, "nothing", "MANY", "2"))
+        self.assert_unlike((SOURCE, "    Many = 2,\n", ""), (SOURCE, "nothing", "MANY", "2"))
 
     def test_name_that_only_the_source_has(self):
-        self.assert_unlike((SOURCE, "pub const MOST: usize", "pub const MOST: u32"), (SOURCE, "9", "MOST", "nothing"))
+        self.assert_unlike((SOURCE, "}\npub enum Other {\n", ""), (SOURCE, "9", "MOST", "nothing"))
 
     def test_gap(self):
-        tree = self.changed((README, "| 3 | TEXT", "| 4 | TEXT"), (SOURCE, "TEXT: u32 = 3", "TEXT: u32 = 4"))
+        tree = self.changed((README, "| 3 | TEXT", "| 4 | TEXT"), (SOURCE, "Text = 3", "Text = 4"))
         self.assertIn("README.md: the numbers of the refusals do not rise by one from 0", run_checker(tree)[0])
 
     def test_no_table(self):
@@ -238,7 +241,7 @@ class Writing(CheckerCase):
 
     new = [
         (README, "first such line |\n", "first such line |\n| 4 | NEWEST_ONE | it is new | 0 |\n"),
-        (SOURCE, "= 3;\n", "= 3;\npub const NEWEST_ONE: u32 = 4;\n"),
+        (SOURCE, "= 3,\n", "= 3,\n    NewestOne = 4,\n"),
     ]
 
     def test_old_enum(self):

@@ -23,6 +23,7 @@ ASSIGNS = {"=", "+=", "-=", "*=", "/=", "%=", "&=", "|=", "^=", "<<=", ">>="}
 CLOSES = {"(": ")", "[": "]", "{": "}"}
 WITH_BLOCK = {"if", "while", "loop", "for", "match", "{"}
 RANGES = {"..", "..="}
+CLOSURES = {"|", "||", "move"}
 
 
 @dataclass(frozen=True)
@@ -127,6 +128,18 @@ class Reader:
         """From where a token starts to where the last one ended."""
         return self.tokens[first].start, self.tokens[self.at - 1].end
 
+    def skip_angles(self):
+        """Steps over what stands between `<` and its `>`, if it begins here."""
+        if not self.take("<"):
+            return
+        depth = 1
+        while depth > 0:
+            text = self.peek()
+            if text in CLOSES:
+                self.skip_group()
+                continue
+            depth += {"<": 1, ">": -1, ">>": -2}.get(self.next().text, 0)
+
     # -- Items
 
     def read(self):
@@ -135,23 +148,35 @@ class Reader:
             self.item()
         return self.source
 
-    def item(self):
-        """Reads an item, or steps over a token that says nothing of it."""
+    def item(self, owner=""):
+        """Reads an item, or steps over a token that says nothing of it. A method goes by its owner's name and its own."""
         word, public = self.next().text, self.at > 1 and self.tokens[self.at - 2].text == "pub"
         if word == "#":
             self.take("!")
             self.skip_group()
-        elif word in ("use", "type"):
+        elif word in ("use", "type", "ghost"):
             self.skip_to(";")
         elif word in ("struct", "enum"):
             self.declaration(self.next().text, word)
         elif word == "const":
             self.constant(self.next().text, public)
         elif word == "fn":
-            self.function(self.next().text)
+            self.function(self.next().text, owner)
+        elif word in ("impl", "trait"):
+            self.methods()
+
+    def methods(self):
+        """Reads the items of a block, whose owner is the type that it is for, or else the trait."""
+        self.skip_angles()
+        head = [token.text for token in self.skip_to("{")]
+        owner = head[head.index("for") + 1] if "for" in head else head[0]
+        self.expect("{")
+        while not self.take("}"):
+            self.item(f"{owner}::")
 
     def declaration(self, name, word):
         """Reads the fields of a struct, or of an enum's variants."""
+        self.skip_angles()
         if word == "struct":
             self.source.fields[name] = self.fields()
             return
@@ -171,6 +196,10 @@ class Reader:
         while not self.take("}"):
             if self.take("pub") and self.peek() == "(":
                 self.skip_group()
+            if self.peek() == "ghost":
+                self.skip_to(",", "}")
+                self.take(",")
+                continue
             name = self.next().text
             self.expect(":")
             types[name] = "".join(token.text for token in self.skip_to(",", "}"))
@@ -178,17 +207,18 @@ class Reader:
         return types
 
     def constant(self, name, public):
-        """Reads a constant's value."""
-        self.skip_to("=")
-        self.next()
+        """Reads a constant's value; a trait's constant may have none."""
+        self.skip_to("=", ";")
+        if self.next().text == ";":
+            return
         self.begin(name, public)
         self.expression()
         self.expect(";")
 
-    def function(self, name):
+    def function(self, name, owner=""):
         """Reads a function's parameters, and its body, after its contract."""
-        self.skip_to("(")
-        self.next()
+        self.skip_angles()
+        self.expect("(")
         types = []
         while not self.take(")"):
             parameter = "".join(token.text for token in self.skip_to(",", ")"))
@@ -201,9 +231,10 @@ class Reader:
                 self.skip_group()
             elif self.peek() == "[":
                 self.skip_group()
-        self.begin(name)
-        if not self.take(";"):
-            self.block()
+        if self.take(";"):
+            return
+        self.begin(owner + name)
+        self.block()
 
     def begin(self, name, public_constant=False):
         """From here on places are those of another item."""
@@ -350,12 +381,16 @@ class Reader:
             self.operand(literals)
             return False
         name, calls = self.primary(literals), False
-        while self.peek() in (".", "(", "["):
-            calls = self.peek() == "("
+        while self.peek() in (".", "(", "[", "?"):
+            calls = self.peek() in ("(", "?")
+            if self.take("?"):
+                continue
             if calls:
                 self.call(name)
             elif self.take("."):
                 name = self.next().text
+                if self.take("::"):
+                    self.skip_angles()
             else:
                 self.next()
                 self.expression()
@@ -367,6 +402,9 @@ class Reader:
         word = self.peek()
         if word in WITH_BLOCK:
             self.with_block()
+            return None
+        if word in CLOSURES:
+            self.closure()
             return None
         token = self.next()
         if word in ("(", "["):
@@ -385,10 +423,31 @@ class Reader:
             self.expect("an expression")
         return None
 
+    def closure(self):
+        """Reads a closure: its parameters and its contract are passed over."""
+        self.take("move")
+        if not self.take("||"):
+            self.expect("|")
+            self.skip_to("|")
+            self.next()
+        if self.take("->"):
+            self.skip_to("{", "requires", "ensures")
+        while self.peek() in ("requires", "ensures"):
+            self.skip_to("{")
+            self.skip_group()
+        self.expression()
+
     def path(self, name, literals):
-        """Reads the rest of a name, and a literal of a struct if one begins; gives the name's last two parts."""
+        """Reads the rest of a name, and a literal of a struct if one begins; gives the name's last two parts. What a macro is given is passed over."""
         while self.take("::"):
-            name = f"{name.rpartition('::')[2]}::{self.next().text}"
+            if self.peek() == "<":
+                self.skip_angles()
+            else:
+                name = f"{name.rpartition('::')[2]}::{self.next().text}"
+        if self.peek() == "!" and self.peek(1) in CLOSES:
+            self.next()
+            self.skip_group()
+            return None
         if literals and self.peek() == "{":
             self.literal(name)
             return None

@@ -11,9 +11,8 @@ use Rattle.plane.specs.Words.{most_points, points_of, marks, cells, most_cells}
 use Rattle.plane.specs.Remaining.{Balanced}
 use Rattle.plane.proofs.Grid.{cells-most}
 use Rattle.plane.proofs.Outcomes.{one-outcome}
-use Rattle.entry.specs.declared.Counted.{Counted}
 use Rattle.entry.specs.Checks.{verdict}
-use Rattle.entry.specs.Entry.{counted, Answers}
+use Rattle.entry.specs.Entry.{counted, Answers, Counted}
 use Rattle.entry.proofs.Verdicts.{verdict-case}
 use Rattle.entry.proofs.Entry.{counted-refused}
 use Rattle.rule.specs.Rows.{balance_checks, few_then}

@@ -2,9 +2,8 @@
 use Rattle.std.specs.Prelude.{List}
 use Rattle.plane.specs.declared.Point.{Point}
 use Rattle.plane.specs.Words.{marks, cells}
-use Rattle.entry.specs.declared.Counted.{Counted}
 use Rattle.entry.specs.Checks.{verdict}
-use Rattle.entry.specs.Entry.{counted}
+use Rattle.entry.specs.Entry.{counted, Counted}
 use Rattle.rule.specs.Rows.{balance_checks, few_then}
 
 -- how many cells the points mark, or what forward's checks refuse of them

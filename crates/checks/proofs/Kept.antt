@@ -18,8 +18,7 @@ use Rattle.plane.specs.Remaining.{Balanced}
 use Rattle.plane.proofs.Edge.{edge-counts}
 use Rattle.ordering.specs.Orders.{row_order}
 use Rattle.ordering.proofs.Orders.{order-length}
-use Rattle.entry.specs.declared.Counted.{Counted}
-use Rattle.entry.specs.Entry.{Answers}
+use Rattle.entry.specs.Entry.{Answers, Counted}
 use Rattle.entry.proofs.Entry.{Numbered, accepts, answers}
 use Rattle.rule.specs.Rows.{balance_checks, point_checks, few_then, points_say, Accepted}
 use Rattle.rule.proofs.Rows.{balance-accepted, points-accepted}

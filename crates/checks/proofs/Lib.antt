@@ -1,4 +1,6 @@
+pub mod Scans
 pub mod Neighbours
+pub mod Judged
 pub mod Clear
 pub mod Repeated
 pub mod Kept

@@ -3,20 +3,20 @@ use Prim.Native.Nat.{ℕ, suc, ◌+◌, ◌*◌, ◌^◌, ◌≤◌, ◌<◌}
 use native.Mathlib.Nat.{mul-suc}
 use native.Mathlib.Numerals.{add-one}
 use native.Mathlib.Omega.{arith}
-use mathlib.Core.Path.{◌≡◌, refl, sym, ◌∙◌}
-use mathlib.Core.Bool.{Bool, true, false, cond}
-use mathlib.Core.List.{List, [], ◌∷◌, ◌++◌, append_assoc, append-nil}
+use mathlib.Core.Path.{◌≡◌, refl}
+use mathlib.Core.List.{List, [], ◌∷◌, ◌++◌}
 use lib.ListN.{length, get_or, drop, length-append}
-use lib.Seq.{drop-cons, drop-drop, drop-length, get_or-drop}
+use lib.Seq.{drop-cons}
 use lib.Dec.{eqb}
-use Rattle.plane.specs.Lists.{bit}
-use Rattle.plane.proofs.Bools.{cond-case, bit-most}
-use Rattle.numerals.specs.Inner.{Wrote}
+use borrow.Author.Tests.{ne_eqb}
+use Rattle.std.proofs.Common.{Iter, Bor, Option, Some, None}
+use Rattle.std.proofs.lemmas.List.{nil_from_length}
+use Rattle.std.specs.Option.{unwrap_or, option_copied}
+use Rattle.std.specs.Slice.Iter.{iter_steps}
+use Rattle.plane.proofs.Bools.{cond-case}
 use Rattle.numerals.specs.Numerals.{decimal}
 use Rattle.numerals.proofs.Printing.{decimal-length}
-use Rattle.numerals.proofs.Writing.{wrote_nothing, wrote-length, wrote_then, room-first, room-then}
 use Rattle.drawing.specs.Picture.{blank, filled}
-use Rattle.drawing.specs.Inner.{piece}
 
 -- ---- How long
 
@@ -45,70 +45,24 @@ filled-most k template numbers h m = omega (arith, filled-length k template numb
 
 -- ---- Byte by byte
 
--- up to place i a template is filled, so many numbers are used, and what is left makes the whole
-pub record Filling (out₀ : List ℕ) (at : ℕ) (template numbers out : List ℕ) (next used i : ℕ) : Type 0 where
-  pub few : used ≤ i
-  pub within : i ≤ length template
-  pub done : List ℕ
-  pub written : Wrote out₀ at done next out
-  pub rest : done ++ filled (drop i template) (drop used numbers) ≡ filled template numbers
-
--- at first nothing is
-pub fill-first : (out : List ℕ) (at : ℕ) (template numbers : List ℕ) → Filling out at template numbers out at 0 0
-fill-first out at template numbers = record { few = omega arith; within = omega arith; done = []; written = wrote_nothing out at; rest = refl }
-
--- at the end all is
-pub fill-last : {out₀ : List ℕ} {at : ℕ} {template numbers out : List ℕ} {next used i : ℕ} → Filling out₀ at template numbers out next used i → length template ≤ i → Wrote out₀ at (filled template numbers) next out
+-- a template without a byte has none
+pub filled-nil : (numbers : List ℕ) → filled [] numbers ≡ []
 unfolding filled
-fill-last {template = template} {i = i} f h =
-    let e : i ≡ length template = omega (arith, f.within) in
-    let all = sym (append-nil f.done) ∙ rw (e, drop-length template) at f.rest in
-    rw all at f.written
+filled-nil numbers = refl
 
--- what is filled so far keeps the output's length
-pub fill-keeps : {out₀ : List ℕ} {at : ℕ} {template numbers out : List ℕ} {next used i : ℕ} → Filling out₀ at template numbers out next used i → at + length (filled template numbers) ≤ length out₀ → length out ≡ length out₀
-fill-keeps {out₀} {at} {template} {numbers} {used = used} {i = i} f room = wrote-length f.written (room-first at (length out₀) f.done (filled (drop i template) (drop used numbers)) (rw f.rest room))
+-- what the next of some numbers is, and 0 where there is none, and the numbers after it
+pub next-of : (s t : Iter ℕ) (r : Option (Bor ℕ)) → iter_steps s r t → (unwrap_or (option_copied r) 0 ≡ get_or s.rest.now 0 0) × (t.rest.now ≡ drop 1 s.rest.now)
+next-of s t None h =
+    let none : s.rest.now ≡ [] = nil_from_length s.rest.now h.0 in
+    rw (h.1, none) (refl, refl)
+next-of s t (Some x) h = rw h (refl, refl)
 
--- the next byte becomes a piece, and the rest is filled with the numbers that are left
-piece-first : (c : ℕ) (cs ns : List ℕ) → filled (c ∷ cs) ns ≡ piece c (get_or ns 0 0) ++ filled cs (drop (bit (eqb c blank)) ns)
+-- the byte at a place of a template, if it is `@`, is the first number, printed
+pub next-number : (template numbers : List ℕ) (i : ℕ) → i < length template → get_or template i 0 ≡ blank → filled (drop i template) numbers ≡ decimal (get_or numbers 0 0) ++ filled (drop (i + 1) template) (drop 1 numbers)
 unfolding filled
-piece-first c cs ns = go (eqb c blank)
-  where
-    go : (b : Bool) → cond b (decimal (get_or ns 0 0) ++ filled cs (drop 1 ns)) (c ∷ filled cs ns) ≡ cond b (decimal (get_or ns 0 0)) (c ∷ []) ++ filled cs (drop (bit b) ns)
-    go true = refl
-    go false = refl
+next-number template numbers i more e = rw (drop-cons template i 0 more, add-one, e) refl
 
-module _ {out₀ : List ℕ} {at : ℕ} {template numbers out : List ℕ} {next used i : ℕ} (f : Filling out₀ at template numbers out next used i) (room : at + length (filled template numbers) ≤ length out₀) (more : i < length template) where
-  -- the next piece, how many numbers it takes, and what is left after it
-  abbrev this : List ℕ
-  this = piece (get_or template i 0) (get_or numbers used 0)
-
-  abbrev uses : ℕ
-  uses = bit (eqb (get_or template i 0) blank)
-
-  abbrev later : List ℕ
-  later = filled (drop (i + 1) template) (drop (used + uses) numbers)
-
-  left_is : filled (drop i template) (drop used numbers) ≡ this ++ later
-  left_is =
-      let zero : used + 0 ≡ used = omega arith in
-      let n : get_or (drop used numbers) 0 0 ≡ get_or numbers used 0 = get_or-drop used numbers 0 0 ∙ rw zero in
-      rw (drop-cons template i 0 more, add-one) (piece-first (get_or template i 0) (drop (suc i) template) (drop used numbers) ∙ rw (n, drop-drop uses used numbers))
-
-  all-fits : at + length (f.done ++ (this ++ later)) ≤ length out₀
-  all-fits = rw (sym left_is, f.rest) room
-
-  -- the next piece has room
-  pub piece-fits : next + length this ≤ length out
-  piece-fits = room-first next (length out) this later (room-then (this ++ later) f.written all-fits)
-
-  -- and is filled in
-  pub fill-next : {r : ℕ} {after : List ℕ} → Wrote out next this r after → Filling out₀ at template numbers after r (used + uses) (i + 1)
-  fill-next w =
-      record {
-        few = omega (arith, f.few, bit-most (eqb (get_or template i 0) blank));
-        within = omega arith;
-        done = f.done ++ this;
-        written = wrote_then f.written w (room-first at (length out₀) f.done (this ++ later) all-fits);
-        rest = append_assoc f.done this later ∙ (rw (sym left_is) f.rest);
-      }
+-- and otherwise itself
+pub next-byte : (template numbers : List ℕ) (i : ℕ) → i < length template → ¬ (get_or template i 0 ≡ blank) → filled (drop i template) numbers ≡ get_or template i 0 ∷ filled (drop (i + 1) template) numbers
+unfolding filled
+next-byte template numbers i more n = rw (drop-cons template i 0 more, add-one, ne_eqb (get_or template i 0) blank n) refl

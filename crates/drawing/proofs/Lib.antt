@@ -1,5 +1,6 @@
 pub mod Bounds
 pub mod Planning
+pub mod Pieces
 pub mod Filling
 pub mod Parts
 pub mod Shown

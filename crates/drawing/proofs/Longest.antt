@@ -8,7 +8,7 @@ use Rattle.plane.specs.declared.Point.{Point}
 use Rattle.plane.specs.declared.Rect.{Rect}
 use Rattle.plane.specs.Words.{flat_points, most_points}
 use Rattle.entry.specs.Checks.{Verdict, accepted, refused, verdict}
-use Rattle.rule.specs.ForwardCall.{Sums}
+use Rattle.rule.specs.declared.Sums.{Sums}
 use Rattle.reading.specs.Reading.{points_read, text_checks}
 use Rattle.reading.proofs.Kept.{lines-are-points, lines-few}
 use Rattle.text.specs.declared.Report.{Report}
@@ -17,7 +17,6 @@ use Rattle.text.proofs.Lengths.{ReportFits}
 use Rattle.text.proofs.Reports.{report-fits}
 use Rattle.drawing.specs.Plan.{frame_of, view_of}
 use Rattle.drawing.specs.Picture.{svg_of, shown, points_shown, list_shown, sums_shown, picture_of}
-use Rattle.drawing.proofs.Bounds.{view-narrow, view-low}
 use Rattle.drawing.proofs.Parts.{list-part-length, point-part-length, mark-part-length, say-part-length}
 use Rattle.drawing.proofs.Shown.{SumsSmall, list-few, sums-small}
 
@@ -27,9 +26,7 @@ svg-length : (ps : List Point) (rs : List Rect) (s : Sums) (r : Report) → leng
 unfolding svg_of
 svg-length ps rs s r m n small f =
     let v = view_of (frame_of ps) in
-    let narrow = view-narrow (frame_of ps) in
-    let low = view-low (frame_of ps) in
-    simp length-append (omega (arith, list-part-length v rs low n, point-part-length v ps low, mark-part-length v ps r narrow low, say-part-length v s r small.count small.area small.edge f))
+    simp length-append (omega (arith, list-part-length v rs n, point-part-length v ps, mark-part-length v ps r, say-part-length v s r small.count small.area small.edge f))
 
 -- ---- The points that are shown
 

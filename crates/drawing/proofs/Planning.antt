@@ -1,47 +1,37 @@
--- Where things stand: how the frame grows point by point, and that a view is scaled by a span of its size.
-use Prim.Native.Nat.{ℕ, ◌+◌, ◌<◌, ◌≤◌}
-use native.Mathlib.Numerals.{add-one}
-use native.Mathlib.Omega.{arith}
-use mathlib.Core.Path.{◌≡◌, refl}
+-- How a frame grows point by point.
+use mathlib.Core.Path.{◌≡◌, refl, sym, ◌∙◌}
 use mathlib.Core.List.{List, [], ◌∷◌}
-use lib.ListN.{length, drop}
-use lib.Seq.{drop-cons}
+use mathlib.Core.Bool.{Bool, false, xor}
+use Rattle.std.specs.List.{fold}
+use Rattle.plane.specs.Lists.{odd}
+use Rattle.plane.proofs.Bools.{xor-false, false-xor, xor_assoc}
 use Rattle.plane.specs.declared.Point.{Point}
-use Rattle.plane.specs.Words.{origin, point_at}
-use Rattle.drawing.specs.declared.Frame.{Frame}
-use Rattle.drawing.specs.Plan.{about, widened, widened_by, frame_of, span_of, view_of}
-use Rattle.drawing.specs.Inner.{IsRaised, ShowsAll}
-use Rattle.drawing.proofs.Bounds.{view-narrow, view-low}
-
--- ---- The frame
+use Rattle.drawing.specs.declared.plan.Frame.{Frame}
+use Rattle.drawing.specs.Plan.{about, widened, widened_by, frame_of}
 
 -- without points all ends are 0
-pub frame-none : (ps : List Point) → length ps ≡ 0 → record { left = 0; right = 0; bottom = 0; top = 0 } ≡ frame_of ps
+pub frame-none : (f : Frame) (ps : List Point) → ps ≡ [] → (f.left ≡ 0) × ((f.right ≡ 0) × ((f.bottom ≡ 0) × (f.top ≡ 0))) → f ≡ frame_of ps
 unfolding frame_of
-frame-none [] h = refl
-frame-none (p ∷ ps) h = absurd (omega arith)
+frame-none f ps e h =
+    let zeros : record { left = f.left; right = f.right; bottom = f.bottom; top = f.top } ≡ record { left = 0; right = 0; bottom = 0; top = 0 } = rw (h.0, h.1.0, h.1.1.0, h.1.1.1) refl in
+    rw e zeros
+
+-- a frame is widened by one point after another
+widened-fold : (f : Frame) (ps : List Point) → fold widened f ps ≡ widened_by f ps
+unfolding widened_by
+widened-fold f [] = refl
+widened-fold f (p ∷ ps) = widened-fold (widened f p) ps
 
 -- the frame of some points begins with the first
-pub frame-first : (ps : List Point) → 0 < length ps → widened_by (about (point_at ps 0)) (drop 1 ps) ≡ frame_of ps
+pub frame-fold : (ps : List Point) (p : Point) (rest : List Point) → ps ≡ p ∷ rest → fold widened (about p) rest ≡ frame_of ps
 unfolding frame_of
-frame-first [] h = absurd (omega arith)
-frame-first (p ∷ ps) h = refl
+frame-fold ps p rest e = widened-fold (about p) rest ∙ rw e refl
 
--- and goes on with the next
-pub frame-next : (f : Frame) (ps : List Point) (i : ℕ) → i < length ps → widened_by f (drop i ps) ≡ widened_by (widened f (point_at ps i)) (drop (i + 1) ps)
-unfolding widened_by
-frame-next f ps i h = rw (add-one, drop-cons ps i origin h)
+-- a parity is turned by each element that passes
+odd-from : {A : Type 0} (f : A → Bool) (b : Bool) (l : List A) → fold (λ t a. xor t (f a)) b l ≡ xor b (odd f l)
+unfolding odd
+odd-from f b [] = sym (xor-false b)
+odd-from f b (a ∷ l) = odd-from f (xor b (f a)) l ∙ xor_assoc b (f a) (odd f l)
 
--- ---- The view
-
--- a span is at least 1 and at most 2^32
-pub span_small : (f : Frame) → IsRaised f → (0 < span_of f) × (span_of f ≤ 4_294_967_296)
-unfolding span_of
-span_small f s = (omega arith, omega arith)
-
--- a view is scaled by such a span, and is small
-pub view-small : (f : Frame) → IsRaised f → ShowsAll (view_of f)
-unfolding view_of
-view-small f s =
-    let h = span_small f s in
-    record { some-span = h.0; small-span = h.1; narrow = view-narrow f; low = view-low f }
+pub odd-fold : {A : Type 0} (f : A → Bool) (l : List A) → fold (λ t a. xor t (f a)) false l ≡ odd f l
+odd-fold f l = odd-from f false l ∙ false-xor (odd f l)

@@ -2,23 +2,25 @@
 use Prim.Native.Nat.{ℕ, ◌*◌, ◌^◌, ◌≤◌, ◌<◌}
 use native.Mathlib.Nat.{zero-add}
 use native.Mathlib.Omega.{arith}
-use mathlib.Core.Path.{◌≡◌, refl, ap, ◌∙◌}
+use mathlib.Core.Path.{◌≡◌, refl, sym, ap, ◌∙◌}
 use mathlib.Core.Bool.{Bool, true, false}
 use mathlib.Core.List.{List}
 use lib.ListN.{length, take}
 use lib.Seq.{take-append_seam}
 use lib.IntN.{ℤ}
 use lib.Dec.{eqb}
+use Rattle.std.proofs.Common.{Result, Ok, Err}
+use Rattle.std.specs.Result.{result_unwrap_or}
 use borrow.Author.Tests.{eqb-true, eqb-false, le-leb, lt-leb}
 use Rattle.plane.specs.declared.Point.{Point}
 use Rattle.plane.specs.declared.Rect.{Rect}
-use Rattle.plane.specs.Words.{points_of, flat_points, rects_of, flat_rects, most_points}
-use Rattle.plane.proofs.Arrays.{points-flat, rects-append}
-use Rattle.entry.specs.declared.Counted.{Counted}
-use Rattle.entry.specs.Entry.{written}
+use Rattle.plane.specs.Words.{points_of, flat_points, rects_of, fours_of, flat_rects, rect_size, most_points}
+use Rattle.plane.proofs.Arrays.{points-flat, length-flat-rects, rects-flat}
+use Rattle.entry.specs.declared.Refusal.{Refusal}
+use Rattle.entry.specs.Entry.{written, Counted, told}
 use Rattle.entry.specs.Checks.{Verdict, accepted, refused, verdict}
-use Rattle.rule.specs.declared.ForwardAnswer.{ForwardAnswer}
-use Rattle.rule.specs.ForwardCall.{forward_says, forward_answer, forward_out, forward_checks, ForwardDone, forward_list, Sums, sums_told, forward_sums, list_of}
+use Rattle.rule.specs.declared.Sums.{Sums}
+use Rattle.rule.specs.ForwardCall.{forward_says, forward_answer, forward_out, forward_checks, ForwardDone, forward_list, sums_told, forward_sums, forward_told, ForwardAnswer}
 use Rattle.rule.proofs.ForwardCall.{forward-accepted}
 use Rattle.rule.proofs.Demands.{forward-sums-fit}
 use Rattle.numerals.specs.Inner.{Wrote}
@@ -35,8 +37,9 @@ count-shown accepted a = refl
 count-shown (refused k p) a = refl
 
 -- and the output begins with it
-starts-shown : (v : Verdict) (rs : List Rect) (out : List ℤ) → take (length (shown v rs)) (rects_of (written v (flat_rects rs) out)) ≡ shown v rs
-starts-shown accepted rs out = rw (rects-append rs) (take-append_seam rs _)
+starts-shown : (v : Verdict) (rs : List Rect) (out : List ℤ) → rects_of (take (rect_size * length (shown v rs)) (written v (flat_rects rs) out)) ≡ shown v rs
+unfolding rects_of fours_of
+starts-shown accepted rs out = rw (sym (length-flat-rects rs), take-append_seam (flat_rects rs) _) (rects-flat rs)
 starts-shown (refused k p) rs out = refl
 
 -- with the program's room it is not long
@@ -61,9 +64,19 @@ sums-small a =
     let v = verdict (forward_checks a most_work most_list) in
     record { count = omega (arith, count-shown v a, list-few a); area = omega (arith, fit.0); edge = omega (arith, fit.1) }
 
+-- no sums are told of a refusal
+pub sums-or-none : (r : Result Sums Refusal) → result_unwrap_or r (record { count = 0; area = 0; edge = 0 }) ≡ sums_told (forward_told r)
+sums-or-none (Ok s) = refl
+sums-or-none (Err e) = refl
+
+-- and no count
+pub count-or-none : (r : Result ℕ Refusal) → result_unwrap_or r 0 ≡ (told r).count
+count-or-none (Ok n) = refl
+count-or-none (Err e) = refl
+
 -- what forward leaves, with the program's work and room
 pub record Made (a : List ℤ) (r : ForwardAnswer) (out-after : List ℤ) : Type 0 where
-  pub list : list_of r out-after ≡ list_shown a
+  pub list : rects_of (take (rect_size * r.count) out-after) ≡ list_shown a
   pub count : r.count ≤ most_listed
   pub sums : sums_told r ≡ sums_shown a
 

@@ -7,15 +7,16 @@ use Rattle.plane.specs.Words.{same, flat_points}
 use Rattle.plane.specs.Keys.{raised}
 use Rattle.entry.specs.Entry.{if_accepted}
 use Rattle.entry.specs.Checks.{Verdict, verdict}
-use Rattle.rule.specs.ForwardCall.{forward_checks, Sums, sums_told, forward_list, forward_answer}
+use Rattle.rule.specs.declared.Sums.{Sums}
+use Rattle.rule.specs.ForwardCall.{forward_checks, sums_told, forward_list, forward_answer}
 use Rattle.numerals.specs.Bytes.{ascii}
 use Rattle.numerals.specs.Numerals.{decimal}
 use Rattle.reading.specs.Reading.{points_read, text_checks}
 use Rattle.text.specs.declared.Report.{Report}
 use Rattle.text.specs.Program.{most_work, most_list, names_one, program_report}
 use Rattle.text.specs.Sentences.{sentence}
-use Rattle.drawing.specs.declared.View.{View}
-use Rattle.drawing.specs.declared.Box.{Box}
+use Rattle.drawing.specs.declared.plan.View.{View}
+use Rattle.drawing.specs.declared.plan.Box.{Box}
 use Rattle.drawing.specs.Plan.{frame_of, view_of, across, down, free_beside, box_of, number_size, dot_radius}
 
 -- ---- Templates

@@ -1,11 +1,13 @@
 -- Where a picture shows what: the points' frame, how it is scaled, and the place of each thing. Units are a hundredth of a pixel.
-use Rattle.std.specs.Prelude.{ℕ, ◌+◌, ◌-◌, ◌*◌, ◌/◌, min, max, List, [], ◌∷◌, ℤ, pos, negsuc}
+use Rattle.std.specs.Prelude.{ℕ, ◌+◌, ◌-◌, ◌*◌, ◌/◌, ◌<◌, ◌≤◌, min, max, List, [], ◌∷◌, ℤ, pos, negsuc}
+use Rattle.std.proofs.Common.{arith}
+use native.Mathlib.Nat.{min-le_right, div-le_of_le-mul}
 use Rattle.plane.specs.declared.Point.{Point}
 use Rattle.plane.specs.declared.Rect.{Rect}
 use Rattle.plane.specs.Keys.{raised}
-use Rattle.drawing.specs.declared.Frame.{Frame}
-use Rattle.drawing.specs.declared.View.{View}
-use Rattle.drawing.specs.declared.Box.{Box}
+use Rattle.drawing.specs.declared.plan.Frame.{Frame}
+use Rattle.drawing.specs.declared.plan.View.{View}
+use Rattle.drawing.specs.declared.plan.Box.{Box}
 
 -- ---- Numbers
 
@@ -40,13 +42,33 @@ frame_of (p ∷ ps) = widened_by (about p) ps
 unfoldable pub span_of : Frame → ℕ
 span_of f = max 1 (max (f.right - f.left) (f.top - f.bottom))
 
+-- there is such a side
+pub some-span : (f : Frame) → 0 < span_of f
+unfolding span_of
+some-span f = omega arith
+
 -- how far v is from low, where a span has 100,000 units; what is outside is put to the end
 unfoldable pub scaled : (span low v : ℕ) → ℕ
 scaled span low v = min (v - low) span * 100_000 / span
 
+-- what is scaled is at most 100,000
+pub scaled-most : (span low v : ℕ) → scaled span low v ≤ 100_000
+unfolding scaled
+scaled-most span low v = div-le_of_le-mul span (omega (arith, min-le_right (v - low) span))
+
 -- a frame as it is shown: the longer side fills the picture
 unfoldable pub view_of : Frame → View
-view_of f = record { left = f.left; bottom = f.bottom; span = span_of f; width = scaled (span_of f) f.left f.right; height = scaled (span_of f) f.bottom f.top }
+view_of f =
+    record {
+      left = f.left;
+      bottom = f.bottom;
+      span = span_of f;
+      width = scaled (span_of f) f.left f.right;
+      height = scaled (span_of f) f.bottom f.top;
+      some_span = some-span f;
+      narrow = scaled-most (span_of f) f.left f.right;
+      low = scaled-most (span_of f) f.bottom f.top;
+    }
 
 -- a raised x, from the picture's left
 unfoldable pub across : View → ℕ → ℕ

@@ -9,9 +9,8 @@ use lib.ListN.{length}
 use Rattle.plane.specs.Lists.{at_start}
 use Rattle.plane.proofs.AtStart.{start-starts, start-length}
 use Rattle.plane.proofs.Outcomes.{one-outcome}
-use Rattle.entry.specs.declared.Counted.{Counted}
 use Rattle.entry.specs.Checks.{Check, Verdict, accepted, refused, verdict}
-use Rattle.entry.specs.Entry.{number_in, place_in, counted, written, Done, Answers, Leaves, Kept}
+use Rattle.entry.specs.Entry.{number_in, place_in, counted, written, Done, Answers, Leaves, Kept, Counted}
 use Rattle.entry.proofs.Verdicts.{verdict-case, Numbers, refused-exactly, refused-number, accepted-exactly}
 
 -- ---- A refusal

@@ -1,8 +1,16 @@
 -- The first of n places where a test passes, and the loop that looks for it.
 use Prim.Native.Nat.{ℕ, zero, suc, ◌+◌, ◌<◌, ◌≤◌}
 use native.Mathlib.Omega.{arith}
-use mathlib.Core.Path.{◌≡◌, subst}
-use mathlib.Core.Bool.{Bool, true, false}
+use mathlib.Core.Path.{◌≡◌, refl, subst, ◌∙◌}
+use mathlib.Core.Bool.{Bool, true, false, not, cond}
+use mathlib.Core.List.{List}
+use lib.ListN.{length, get_or}
+use lib.Dec.{ltb}
+use borrow.Author.Tests.{ltb-false}
+use Rattle.std.specs.Prelude.{Some, None}
+use Rattle.std.specs.List.{position, position_or_len}
+use Rattle.std.specs.Option.{unwrap_or}
+use Rattle.std.proofs.lemmas.List.Sums.{position_or_len_is, prefix_len-le-length}
 use Rattle.plane.proofs.Bools.{clash, by-no, cond-case}
 use Rattle.entry.specs.Checks.{first_from, first_bad}
 
@@ -69,3 +77,21 @@ module _ {n many : ℕ} (places : many ≡ n) {t : ℕ → Bool} {i : ℕ} (none
       go : {j : ℕ} → Found many t j → i ≡ j
       go (at {i = j} k d f) = absurd (clash d (none_yet j (omega arith)))
       go (nowhere f) = omega arith
+
+-- ---- The library's search through a list
+
+-- the first element that passes a test is at the first place that passes one that is told of places
+pub position-first : {A : Type 0} (f : A → Bool) (l : List A) (d : A) (t : ℕ → Bool) → ((i : ℕ) → i < length l → f (get_or l i d) ≡ t i) → position_or_len f l ≡ first_bad (length l) t
+position-first f l d t h = go (first_found (length l) t)
+  where
+    go : {i : ℕ} → Found (length l) t i → position_or_len f l ≡ i
+    go (at {i} k e none) = position_or_len_is f l i d (omega arith) (λ j m. h j (omega arith) ∙ none j m) (λ m. h i m ∙ e)
+    go (nowhere none) = position_or_len_is f l (length l) d (omega arith) (λ j m. h j m ∙ none j m) (λ m. absurd (omega arith))
+
+-- and where none passes, that is their number
+pub or-all : {A : Type 0} (f : A → Bool) (l : List A) {n : ℕ} → n ≡ length l → unwrap_or (position f l) n ≡ position_or_len f l
+or-all f l {n} e = go (ltb (position_or_len f l) (length l)) refl
+  where
+    go : (b : Bool) → ltb (position_or_len f l) (length l) ≡ b → unwrap_or (cond b (Some (position_or_len f l)) None) n ≡ position_or_len f l
+    go true h = refl
+    go false h = omega (arith, ltb-false _ _ h, prefix_len-le-length (λ a. not (f a)) l)

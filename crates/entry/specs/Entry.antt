@@ -1,8 +1,9 @@
 -- What an entry point answers and leaves, of what its checks say, and what that comes to for its caller.
-use Rattle.std.specs.Prelude.{ℕ, suc, ◌≡◌, ◌≢◌, ◌↔◌, List, length}
+use Rattle.std.specs.Prelude.{ℕ, suc, ◌≡◌, ◌≢◌, ◌↔◌, List, length, Result, Ok, Err}
 use Rattle.plane.specs.Lists.{at_start, Starts}
-use Rattle.entry.specs.declared.Counted.{Counted}
+use Rattle.entry.specs.declared.Refusal.{Refusal}
 use Rattle.entry.specs.Checks.{Check, FirstGiven, Verdict, accepted, refused, verdict}
+use Rattle.entry.specs.Refusals.{number_of}
 
 -- one thing where nothing is refused, and another on a refusal
 abbrev pub if_accepted : {A : Type 0} → Verdict → (then else : A) → A
@@ -20,6 +21,17 @@ number_in (refused k p) = k
 abbrev pub place_in : Verdict → ℕ
 place_in accepted = 0
 place_in (refused k p) = p
+
+-- what one that counts answers: answer, place and count
+pub record Counted : Type 0 where
+  pub answer : ℕ
+  pub place : ℕ
+  pub count : ℕ
+
+-- the answer that a result tells: with a count 0 and place 0, and with a refusal its number and place
+abbrev pub told : Result ℕ Refusal → Counted
+told (Ok n) = record { answer = 0; place = 0; count = n }
+told (Err e) = record { answer = number_of e.reason; place = e.place; count = 0 }
 
 -- answer, place and count, which is 0 on a refusal
 abbrev pub counted : Verdict → (count : ℕ) → Counted

@@ -1,75 +1,127 @@
-// What every entry point shares: the numbers of its answers, and the answer of one that counts.
+// What every entry point shares: why an input is refused, and at which place.
 // What is said of a call is in specs/.
 #![tactic(auto)]
 
 ghost use Rattle.std.specs.Prelude.{◌≡◌};
-ghost use Rattle.entry.specs.Checks.{accepted, refused};
-ghost use Rattle.entry.specs.Entry.{counted};
+ghost use Rattle.entry.specs.Refusals.{number_of, IsNumbered};
 
-// ---- The numbers of the answers
+use std::error::Error;
+use std::fmt;
 
-pub const DONE: u32 = 0;
+/// Why an input is refused, with the number that documents 01 and 02 give to it.
+#[derive(Clone, Copy, Debug, PartialEq, Eq)]
+pub enum Reason {
+    /// The array has numbers left over.
+    Length = 1,
+    /// There are more points, rectangles, lines or bytes than are taken.
+    Many = 2,
+    /// The working array is too short.
+    Work = 3,
+    /// A coordinate is out of range.
+    Range = 4,
+    /// A point stands twice.
+    Repeated = 5,
+    /// A row has an odd number of points.
+    Row = 6,
+    /// A column has an odd number of points.
+    Column = 7,
+    /// The result needs more room.
+    Room = 8,
+    /// A rectangle has a side below 1.
+    Flat = 9,
+    /// No point is left.
+    Drained = 10,
+    /// A line is not two numbers.
+    Text = 11,
+    /// The bytes end too early.
+    Truncated = 12,
+    /// A record is malformed or out of order, a path or a reference.
+    Record = 13,
+    /// A boundary does not close.
+    Open = 14,
+    /// An edge is neither horizontal nor vertical.
+    Slanted = 15,
+    /// The structure is not there.
+    Absent = 16,
+    /// Two boundaries overlap.
+    Overlap = 17,
+}
 
-pub const LENGTH: u32 = 1;
+impl Reason {
+    /// The refusal for this reason, at a place.
+    pub fn at(self, place: usize) -> Refusal
+        ensures { result ≡ record { reason = self; place = place } }
+    {
+        Refusal {
+            reason: self,
+            place: place as u64,
+        }
+    }
+}
 
-pub const MANY: u32 = 2;
+impl From<Reason> for u32 {
+    ghost from_gives = { λ reason number. number ≡ number_of reason };
 
-pub const WORK: u32 = 3;
+    fn from(reason: Reason) -> u32 {
+        reason as u32
+    }
+}
 
-pub const RANGE: u32 = 4;
+/// A number that no reason has.
+#[derive(Clone, Copy, Debug, PartialEq, Eq)]
+pub struct UnknownReason(pub u32);
 
-pub const REPEATED: u32 = 5;
+impl fmt::Display for UnknownReason {
+    fn fmt<W: fmt::Write>(&self, f: &mut fmt::Formatter<W>) -> fmt::Result {
+        write!(f, "no refusal has number {}", self.0)
+    }
+}
 
-pub const ROW: u32 = 6;
+impl Error for UnknownReason {}
 
-pub const COLUMN: u32 = 7;
+// No derive gives the reason of a number.
+impl TryFrom<u32> for Reason {
+    type Error = UnknownReason;
 
-pub const ROOM: u32 = 8;
+    ghost try_from_gives = { IsNumbered };
 
-pub const FLAT: u32 = 9;
+    fn try_from(number: u32) -> Result<Self, UnknownReason> {
+        match number {
+            1 => Ok(Reason::Length),
+            2 => Ok(Reason::Many),
+            3 => Ok(Reason::Work),
+            4 => Ok(Reason::Range),
+            5 => Ok(Reason::Repeated),
+            6 => Ok(Reason::Row),
+            7 => Ok(Reason::Column),
+            8 => Ok(Reason::Room),
+            9 => Ok(Reason::Flat),
+            10 => Ok(Reason::Drained),
+            11 => Ok(Reason::Text),
+            12 => Ok(Reason::Truncated),
+            13 => Ok(Reason::Record),
+            14 => Ok(Reason::Open),
+            15 => Ok(Reason::Slanted),
+            16 => Ok(Reason::Absent),
+            17 => Ok(Reason::Overlap),
+            _ => Err(UnknownReason(number)),
+        }
+    }
+}
 
-pub const DRAINED: u32 = 10;
-
-pub const TEXT: u32 = 11;
-
-pub const TRUNCATED: u32 = 12;
-
-pub const RECORD: u32 = 13;
-
-pub const OPEN: u32 = 14;
-
-pub const SLANTED: u32 = 15;
-
-pub const ABSENT: u32 = 16;
-
-pub const OVERLAP: u32 = 17;
-
-// ---- The answer of one that counts
-
-// The count is of points, of rectangles, of lines or of bytes. On a refusal it is 0.
-#[derive(Clone, Copy)]
-pub struct Counted {
-    pub answer: u32,
+/// A refusal: why, and the place of what offends.
+#[derive(Clone, Copy, Debug, PartialEq, Eq)]
+pub struct Refusal {
+    pub reason: Reason,
     pub place: u64,
-    pub count: usize,
 }
 
-pub fn done(count: usize) -> Counted
-    ensures { result ≡ counted accepted count }
-{
-    Counted {
-        answer: DONE,
-        place: 0,
-        count: count,
+impl fmt::Display for Refusal {
+    fn fmt<W: fmt::Write>(&self, f: &mut fmt::Formatter<W>) -> fmt::Result {
+        let number = u32::from(self.reason);
+        let place = self.place;
+        write!(f, "refused {number} place {place}")
     }
 }
 
-pub fn refusal(answer: u32, place: u64) -> Counted
-    ensures { result ≡ counted (refused answer place) 0 }
-{
-    Counted {
-        answer: answer,
-        place: place,
-        count: 0,
-    }
-}
+impl Error for Refusal {}

@@ -2,20 +2,19 @@
 #![tactic(auto)]
 
 // Writes the sentence of a refusal to standard error.
-fn complain(rt: HostRuntime, report: text::Report) {
-    let mut sentence: [u8; text::MOST_SAID] = [0; text::MOST_SAID];
-    let n = text::complaint(report, &mut sentence);
+fn complain(rt: HostRuntime, outcome: text::Outcome) {
+    let mut sentence = [0; text::MOST_SAID];
+    let n = text::complaint(outcome.into(), &mut sentence);
     ends::write_error(rt, &sentence[..n]);
 }
 
 fn main(rt: HostRuntime) {
-    let mut bytes: [u8; 65537] = [0; 65537];
+    let mut bytes = [0; 65537];
     let length = ends::read_input(rt, &mut bytes);
-    let mut printed: [u8; text::MOST_PRINTED] = [0; text::MOST_PRINTED];
-    let report = text::answer(&bytes[..length], &mut printed);
-    let n = report.printed;
-    ends::write_output(rt, &printed[..n]);
-    if report.answer != 0 {
-        complain(rt, report);
+    let mut printed = [0; text::MOST_PRINTED];
+    let outcome = text::answer(&bytes[..length], &mut printed);
+    ends::write_output(rt, &printed[..outcome.printed]);
+    if outcome.refusal.is_some() {
+        complain(rt, outcome);
     }
 }

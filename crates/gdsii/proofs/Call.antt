@@ -17,10 +17,9 @@ use Rattle.plane.specs.Words.{most_points, origin, flat_points, point_in_range, 
 use Rattle.plane.specs.Remaining.{Balanced}
 use Rattle.plane.proofs.Arrays.{points-flat}
 use Rattle.plane.proofs.Places.{all_pass}
-use Rattle.entry.specs.declared.Counted.{Counted}
 use Rattle.entry.specs.Checks.{Check, Verdict, accepted, refused, whole, met, first_said, judged, or_later, verdict}
 use Rattle.entry.proofs.Verdicts.{verdict-none, verdict-whole, verdict-passes, verdict-after, verdict-append}
-use Rattle.entry.specs.Entry.{counted, written, Done}
+use Rattle.entry.specs.Entry.{counted, written, Done, Counted}
 use Rattle.entry.proofs.Entry.{refused-done}
 use Rattle.rule.specs.Rows.{MANY, RANGE, ROW, COLUMN, ROOM, balance_checks, few_then}
 use Rattle.rule.proofs.Rows.{many-clear, balance-clear, balance-accepted}
@@ -29,16 +28,10 @@ use Rattle.boundaries.specs.Inner.{add_capped}
 use Rattle.boundaries.proofs.Rays.{corners-balanced}
 use Rattle.boundaries.proofs.Handed.{corners_area, Shapes, shapes-none, shapes-with, handed-balanced}
 use Rattle.boundaries.proofs.Capped.{areas_from, overlaps-capped}
-use Rattle.records.specs.Records.{head_size}
 use Rattle.gdsii.specs.declared.Cursor.{Cursor}
-use Rattle.gdsii.specs.declared.Judged.{Judged}
-use Rattle.gdsii.specs.declared.Judged.TheVariants.{Refused, Over, Passed, Boundary}
-use Rattle.gdsii.specs.declared.Gathered.{Gathered}
-use Rattle.gdsii.specs.declared.Gathered.TheVariants.{Stopped}
-use Rattle.gdsii.specs.Walk.{vertices, judge, Outcome, stopped, walked, before, onward, start, read_from, read_all}
+use Rattle.gdsii.specs.Walk.{Judged, Refused, Over, Passed, Boundary, judge, Outcome, stopped, walked, before, onward, start, read_from, read_all}
 use Rattle.gdsii.specs.Call.{corners_in, ABSENT, OVERLAP, read_checks, scratch_size}
-use Rattle.gdsii.specs.Inner.{put_points, marked_in, area_with, area_from, gathered, Filled, hand_checks, HandedOn, ReadSays}
-use Rattle.gdsii.proofs.Vertices.{fine-shape}
+use Rattle.gdsii.specs.Inner.{Gathering, Stopped, put_points, marked_in, area_with, area_from, gathered, Filled, hand_checks, HandedOn, ReadSays}
 use Rattle.gdsii.proofs.Walk.{boundary-ahead}
 use Rattle.gdsii.proofs.Corners.{put-points-length, put-points-there}
 use Rattle.gdsii.proofs.Gathering.{stopped-says, Ended}
@@ -50,15 +43,15 @@ Fair (stopped k p) = Unit {0}
 Fair (walked f bs) = Shapes bs
 
 module _ (name : List ℕ) (layer : ℤ) where
-  onward-fair : (c : Cursor) (t : List ℕ) (rest : Cursor → Outcome) → ((d : Cursor) → Fair (rest d)) → (j : Judged) → judge name layer c t ≡ j → Fair (onward name layer j c.at t rest)
+  onward-fair : (c : Cursor) (t : List ℕ) (rest : Cursor → Outcome) → ((d : Cursor) → Fair (rest d)) → (j : Judged) → judge name layer c t ≡ j → Fair (onward j c.at rest)
   onward-fair c t rest ih (Refused k) e = tt
   onward-fair c t rest ih (Over f) e = shapes-none
   onward-fair c t rest ih (Passed d) e = ih d
-  onward-fair c t rest ih (Boundary m d) e = more (rest d) (ih d)
+  onward-fair c t rest ih (Boundary vs d) e = more (rest d) (ih d)
     where
-      more : (o : Outcome) → Fair o → Fair (before (vertices m head_size t) o)
+      more : (o : Outcome) → Fair o → Fair (before vs o)
       more (stopped k p) h = tt
-      more (walked f bs) h = let s = fine-shape (vertices m head_size t) (boundary-ahead name layer c t e).2 in shapes-with s.0 s.1 h
+      more (walked f bs) h = let s = boundary-ahead name layer c t e in shapes-with s.2 s.3 h
 
   read-fair : (c : Cursor) (skip : ℕ) (t : List ℕ) → Fair (read_from name layer c skip t)
   unfolding read_from
@@ -128,7 +121,7 @@ hand-verdict bs out s few =
 -- ---- What is answered and written, of what was gathered
 
 module _ (o : Outcome) (out : List ℤ) where
-  pub stopped-read : {g : Gathered} {k p : ℕ} {r : Counted} → g ≡ gathered o 0 0 → g ≡ Stopped k p → r ≡ counted (refused k p) 0 → ReadSays o out r out
+  pub stopped-read : {g : Gathering} {k p : ℕ} {r : Counted} → g ≡ gathered o 0 0 → g ≡ Stopped k p → r ≡ counted (refused k p) 0 → ReadSays o out r out
   stopped-read {k = k} {p} e d says = refused-done says (ap (λ (u : Outcome). verdict (read_checks u (length out))) (stopped-says o (sym e ∙ d)) ∙ stopped-verdict k p (length out))
 
   module _ {f : Bool} {n area : ℕ} (w : Ended o f n area) where

@@ -13,10 +13,9 @@ use Rattle.plane.specs.Words.{most_points, points_of, most_cells}
 use Rattle.plane.proofs.Arrays.{points-flat}
 use Rattle.boundaries.specs.Boundary.{boundary_corners, handed_on}
 use Rattle.boundaries.specs.Inner.{add_capped}
-use Rattle.gdsii.specs.declared.Gathered.TheVariants.{Stopped, Whole}
 use Rattle.gdsii.specs.Walk.{Outcome, stopped, walked, before}
 use Rattle.gdsii.specs.Call.{scratch_size}
-use Rattle.gdsii.specs.Inner.{marked_in, area_with, area_from, put_points, gathered, Filled}
+use Rattle.gdsii.specs.Inner.{Stopped, Whole, marked_in, area_with, area_from, put_points, gathered, Filled}
 use Rattle.gdsii.proofs.Corners.{put-points-length, put-points-then, put-points-there}
 
 -- ---- The sum of the areas

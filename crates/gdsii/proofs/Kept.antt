@@ -19,9 +19,8 @@ use Rattle.plane.proofs.Arrays.{length-flat-points}
 use Rattle.plane.proofs.Places.{all_pass}
 use Rattle.plane.proofs.Outcomes.{one-outcome}
 use Rattle.plane.proofs.AtStart.{points-layout, first-numbers, past-numbers, first-items}
-use Rattle.entry.specs.declared.Counted.{Counted}
 use Rattle.entry.specs.Checks.{FirstMet, here, met, numbers_of, first_bad, accepted, refused, verdict}
-use Rattle.entry.specs.Entry.{number_in, Kept}
+use Rattle.entry.specs.Entry.{number_in, Kept, Counted}
 use Rattle.entry.proofs.Verdicts.{Clear, AllClear, accepted-clear, verdict-none, verdict-whole, verdict-each, verdict-passes}
 use Rattle.entry.proofs.Search.{none-bad}
 use Rattle.entry.proofs.Entry.{Numbered, kept, counted-accepted, done-one-outcome}

@@ -1,5 +1,5 @@
 pub mod Names
-pub mod Vertices
+pub mod Shapes
 pub mod Walk
 pub mod Stream
 pub mod Corners

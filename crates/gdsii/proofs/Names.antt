@@ -1,54 +1,47 @@
 -- Names compared without padding.
 use mathlib.Core.Path.{◌≡◌, refl, sym, ap, ap₂, ◌∙◌}
-use mathlib.Core.Logic.{◌⊎◌, inl, inr, ◌≢◌}
-use Prim.Native.Nat.{ℕ, ◌+◌, ◌≤◌, ◌<◌}
-use native.Mathlib.Omega.{arith}
-use mathlib.Core.Bool.{true, false, ◌&&◌, ◌||◌}
+use mathlib.Core.Bool.{Bool, true, false, ◌&&◌, and-true}
 use mathlib.Core.List.{List, [], ◌∷◌}
-use lib.ListN.{length, get_or, drop, length-drop, drop_of_length-le}
-use lib.Seq.{get_or-drop, drop-drop}
-use lib.Dec.{eqb, ltb}
-use borrow.Author.Tests.{ltb-true, ltb-false, eq-eqb, ne_eqb}
-use Rattle.plane.proofs.Bools.{or-one, or_parts}
+use Prim.Native.Nat.{ℕ, suc, min}
+use lib.ListN.{length, take, drop}
+use lib.Dec.{eqb}
+use lib.Pointwise.{pointwise}
+use borrow.Author.Tests.{eqb-true, eqb-false, eq-eqb, ne_eqb}
+use Rattle.std.specs.List.{list_all}
+use Rattle.std.proofs.Math.Nat.{suc-min-suc, zero-min, min-zero}
 use Rattle.gdsii.specs.Walk.{same_name}
 
--- there is a byte at the place in one of two names
-pub reach : (i m n : ℕ) → (ltb i m || ltb i n) ≡ true → (i < m) ⊎ (i < n)
-reach i m n e = go (or-one (ltb i m) (ltb i n) e)
+-- bytes that are all NUL
+abbrev padding : List ℕ → Bool
+padding cs = list_all (λ c. eqb c 0) cs
+
+eqb-swap : (m n : ℕ) → eqb m n ≡ eqb n m
+eqb-swap m n = go (eqb m n) refl
   where
-    go : (ltb i m ≡ true) ⊎ (ltb i n ≡ true) → (i < m) ⊎ (i < n)
-    go (inl d) = inl (ltb-true i m d)
-    go (inr d) = inr (ltb-true i n d)
+    go : (t : Bool) → eqb m n ≡ t → eqb m n ≡ eqb n m
+    go true e = let d = eqb-true m n e in e ∙ sym (eq-eqb n m (sym d))
+    go false e = e ∙ sym (ne_eqb n m (λ d. eqb-false m n e (sym d)))
 
--- or in none
-pub past : (i m n : ℕ) → (ltb i m || ltb i n) ≡ false → (m ≤ i) × (n ≤ i)
-past i m n e = let h = or_parts (ltb i m) (ltb i n) e in (ltb-false i m h.0, ltb-false i n h.1)
-
-heads : (u v : List ℕ) → (0 < length u) ⊎ (0 < length v) → same_name u v ≡ (eqb (get_or u 0 0) (get_or v 0 0) && same_name (drop 1 u) (drop 1 v))
+-- are the same as no name, on either side
+padding-right : (cs : List ℕ) → padding cs ≡ same_name cs []
 unfolding same_name
-heads [] [] (inl h) = absurd (omega arith)
-heads [] [] (inr h) = absurd (omega arith)
-heads [] (c ∷ cs) h = refl
-heads (b ∷ bs) [] h = refl
-heads (b ∷ bs) (c ∷ cs) h = refl
+padding-right [] = refl
+padding-right (c ∷ cs) = ap (λ (t : Bool). eqb c 0 && t) (padding-right cs)
 
-first-at : (t : List ℕ) (i : ℕ) → get_or (drop i t) 0 0 ≡ get_or t i 0
-first-at t i = get_or-drop i t 0 0 ∙ ap (λ (k : ℕ). get_or t k 0) (omega arith)
+padding-left : (cs : List ℕ) → padding cs ≡ same_name [] cs
+unfolding same_name
+padding-left [] = refl
+padding-left (c ∷ cs) = ap₂ ◌&&◌ (eqb-swap c 0) (padding-left cs)
 
-module _ (a b : List ℕ) (i : ℕ) where
-  step : (i < length a) ⊎ (i < length b) → same_name (drop i a) (drop i b) ≡ (eqb (get_or a i 0) (get_or b i 0) && same_name (drop (i + 1) a) (drop (i + 1) b))
-  step h = heads (drop i a) (drop i b) (go h) ∙ ap₂ ◌&&◌ (ap₂ eqb (first-at a i) (first-at b i)) (ap₂ same_name (drop-drop 1 i a) (drop-drop 1 i b))
-    where
-      go : (i < length a) ⊎ (i < length b) → (0 < length (drop i a)) ⊎ (0 < length (drop i b))
-      go (inl g) = inl (omega (arith, length-drop i a))
-      go (inr g) = inr (omega (arith, length-drop i b))
+and-assoc : (s t u v : Bool) → (((s && t) && u) && v) ≡ (s && ((t && u) && v))
+and-assoc true t u v = refl
+and-assoc false t u v = refl
 
-  pub names-differ : (i < length a) ⊎ (i < length b) → get_or a i 0 ≢ get_or b i 0 → same_name (drop i a) (drop i b) ≡ false
-  names-differ h n = step h ∙ rw (ne_eqb (get_or a i 0) (get_or b i 0) n)
-
-  pub names-agree : (i < length a) ⊎ (i < length b) → get_or a i 0 ≡ get_or b i 0 → same_name (drop (i + 1) a) (drop (i + 1) b) ≡ same_name (drop i a) (drop i b)
-  names-agree h e = sym (step h ∙ rw (eq-eqb (get_or a i 0) (get_or b i 0) e))
-
-  pub names-end : length a ≤ i → length b ≤ i → same_name (drop i a) (drop i b) ≡ true
-  unfolding same_name
-  names-end g h = rw (drop_of_length-le a {i = i} g, drop_of_length-le b {i = i} h)
+-- names are the same where they agree as far as both go, and what is left of either is padding
+pub same-unpadded : (a b : List ℕ) → let n = min (length a) (length b) in ((pointwise eqb (take n a) (take n b) && padding (drop n a)) && padding (drop n b)) ≡ same_name a b
+unfolding same_name
+same-unpadded [] [] = refl
+same-unpadded [] (c ∷ cs) = rw (zero-min (suc (length cs))) (padding-left (c ∷ cs))
+same-unpadded (b ∷ bs) [] = rw (min-zero (suc (length bs))) (and-true _ ∙ padding-right (b ∷ bs))
+same-unpadded (b ∷ bs) (c ∷ cs) =
+    rw (suc-min-suc (length bs) (length cs)) (and-assoc (eqb b c) _ _ _ ∙ ap (λ (t : Bool). eqb b c && t) (same-unpadded bs cs))

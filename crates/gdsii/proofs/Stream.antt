@@ -2,7 +2,7 @@
 -- do not matter.
 use mathlib.Core.Path.{◌≡◌, refl, sym, ap, ◌∙◌, subst}
 use mathlib.Core.Logic.{◌≢◌, ◌↔◌, ◌⊎◌, inl, inr}
-use Prim.Native.Nat.{ℕ, zero, suc, ◌+◌, ◌-◌, ◌*◌, ◌/◌, ◌^◌, ◌≤◌, ◌<◌}
+use Prim.Native.Nat.{ℕ, zero, suc, ◌+◌, ◌-◌, ◌/◌, ◌^◌, ◌≤◌, ◌<◌}
 use native.Mathlib.Omega.{arith}
 use mathlib.Core.Bool.{Bool, true, false, ◌&&◌}
 use mathlib.Core.List.{List, [], ◌∷◌, ◌++◌}
@@ -16,16 +16,18 @@ use Rattle.plane.proofs.Bools.{cond-case}
 use Rattle.bigendian.specs.Numbers.{signed}
 use Rattle.bigendian.proofs.Laws.{number_append}
 use Rattle.boundaries.specs.Boundary.{is_open, slanted}
+use Rattle.std.specs.Prelude.{Result, Ok, Err}
+use Rattle.entry.specs.declared.Reason.{Reason}
+use Rattle.entry.specs.declared.Reason.TheVariants.{Truncated, Record as Malformed}
+use Rattle.entry.specs.Refusals.{number_of}
 use Rattle.records.specs.declared.Treatment.{Treatment}
 use Rattle.records.specs.declared.Treatment.TheVariants.{End, Name, Leave, Refer, Layer, Vertices, Unknown, Skip}
 use Rattle.records.specs.declared.Record.{Record}
-use Rattle.records.specs.declared.Record.TheVariants.{Refused as Unread, Good}
-use Rattle.records.specs.Records.{TRUNCATED, RECORD, head_size, treatment_of, record_of}
-use Rattle.records.proofs.Heads.{good-sized, unread-number, layer-sized, record-append}
+use Rattle.records.specs.Records.{TRUNCATED, head_size, treatment_of, record_of}
+use Rattle.records.proofs.Heads.{good-sized, unread-reason, layer-sized, record-append}
 use Rattle.gdsii.specs.declared.Cursor.{Cursor}
-use Rattle.gdsii.specs.declared.Judged.{Judged}
-use Rattle.gdsii.specs.declared.Judged.TheVariants.{Refused, Over, Passed, Boundary}
-use Rattle.gdsii.specs.Walk.{SLANTED, layer_in, vertex_size, vertex_at, vertices, boundary_xy, act, by_record, judge, Outcome, stopped, walked, before, start, read_from, read_all, Visited, begin, pass, read, RefusedAt, by-record, by_end}
+use Rattle.gdsii.specs.Walk.{SLANTED, Judged, Refused, Over, Passed, Boundary, layer_in, vertex_size, vertices, boundary_xy, act, by_record, judge, Outcome, stopped, walked, before, start, read_from, read_all, Visited, begin, pass, read, RefusedAt, by-record, by_end}
+use Rattle.gdsii.proofs.Shapes.{vertices-append}
 use Rattle.gdsii.proofs.Walk.{passed-ahead, boundary-ahead, judge-unread, judge-good, read-stops, read-over, read-passes, read-outline, read-end}
 
 -- ---- The walk, record by record
@@ -36,7 +38,7 @@ data Course (name : List ℕ) (layer : ℤ) (t : List ℕ) : Cursor → Outcome 
   refused : {c : Cursor} {k : ℕ} → c.at < length t → judge name layer c (drop c.at t) ≡ Refused k → Course name layer t c (stopped k c.at)
   ended : {c : Cursor} {f : Bool} → c.at < length t → judge name layer c (drop c.at t) ≡ Over f → Course name layer t c (walked f [])
   passed : {c d : Cursor} {o : Outcome} → c.at < length t → judge name layer c (drop c.at t) ≡ Passed d → Course name layer t d o → Course name layer t c o
-  outlined : {c d : Cursor} {m : ℕ} {o : Outcome} → c.at < length t → judge name layer c (drop c.at t) ≡ Boundary m d → Course name layer t d o → Course name layer t c (before (vertices m (c.at + head_size) t) o)
+  outlined : {c d : Cursor} {vs : List Point} {o : Outcome} → c.at < length t → judge name layer c (drop c.at t) ≡ Boundary vs d → Course name layer t d o → Course name layer t c (before vs o)
 
 module _ (name : List ℕ) (layer : ℤ) (t : List ℕ) where
   -- the walk from a cursor
@@ -54,7 +56,7 @@ module _ (name : List ℕ) (layer : ℤ) (t : List ℕ) where
       go g on (Passed d) e =
           let a = passed-ahead name layer c (drop c.at t) e in
           subst (Course name layer t c) (read-passes name layer c t g e) (passed g e (on d (omega (arith, a.least))))
-      go g on (Boundary m d) e =
+      go g on (Boundary vs d) e =
           let a = (boundary-ahead name layer c (drop c.at t) e).0 in
           subst (Course name layer t c) (read-outline name layer c t g e) (outlined g e (on d (omega (arith, a.least))))
 
@@ -73,7 +75,7 @@ module _ (name : List ℕ) (layer : ℤ) (t : List ℕ) where
   course-tells (refused {c} h e) = read-stops name layer c t h e
   course-tells (ended {c} h e) = read-over name layer c t h e
   course-tells (passed {c} h e r) = course-tells r ∙ read-passes name layer c t h e
-  course-tells (outlined {c} {m = m} h e r) = ap (before (vertices m (c.at + head_size) t)) (course-tells r) ∙ read-outline name layer c t h e
+  course-tells (outlined {c} {vs = vs} h e r) = ap (before vs) (course-tells r) ∙ read-outline name layer c t h e
 
 -- ---- The first met wins
 
@@ -98,14 +100,14 @@ module _ (name : List ℕ) (layer : ℤ) (t : List ℕ) where
   ends-in r (refused {c} h e) = (c, r, refl, by-record h e)
   ends-in r (ended {c} h e) = (c, r, h, e)
   ends-in r (passed h e w) = ends-in (pass r h e) w
-  ends-in r (outlined {c} {m = m} {o = o} h e w) = ends-before (vertices m (c.at + head_size) t) o (ends-in (read r h e) w)
+  ends-in r (outlined {vs = vs} {o = o} h e w) = ends-before vs o (ends-in (read r h e) w)
 
   -- what is true of the walk from a cursor that it comes to, whatever boundaries were read before, is true of the whole walk
   from-reached : (P : Outcome → Type 0) → ((vs : List Point) (o : Outcome) → P o → P (before vs o)) → {c : Cursor} → Visited name layer t c → P (from name layer t c) → P (read_all name layer t)
   unfolding read_all
   from-reached P more begin h = h
   from-reached P more (pass {c} {d} r g e) h = from-reached P more r (subst P (read-passes name layer c t g e) h)
-  from-reached P more (read {c} {d} {m} r g e) h = from-reached P more r (subst P (read-outline name layer c t g e) (more (vertices m (c.at + head_size) t) (from name layer t d) h))
+  from-reached P more (read {c} {d} {vs} r g e) h = from-reached P more r (subst P (read-outline name layer c t g e) (more vs (from name layer t d) h))
 
   -- THE FIRST MET WINS: the walk stops with a refusal at a place exactly when, after records that are all passed or read, it comes there and is refused
   pub stopped-exactly : (k p : ℕ) → (read_all name layer t ≡ stopped k p) ↔ ((c : Cursor) × Visited name layer t c × (c.at ≡ p) × RefusedAt name layer t c k)
@@ -129,7 +131,7 @@ abbrev Numbered : Judged → Type 0
 Numbered (Refused k) = (TRUNCATED ≤ k) × (k ≤ SLANTED)
 Numbered (Over f) = Unit {0}
 Numbered (Passed d) = Unit {0}
-Numbered (Boundary m d) = Unit {0}
+Numbered (Boundary vs d) = Unit {0}
 
 module _ (name : List ℕ) (layer : ℤ) where
   act-numbered : (c : Cursor) (n row : ℕ) (t : List ℕ) (u : Treatment) → Numbered (act name layer u c n row t)
@@ -148,13 +150,13 @@ module _ (name : List ℕ) (layer : ℤ) where
   unfolding judge
   judge-numbered c t = go (record_of c.row t) refl
     where
-      one : {k : ℕ} → (k ≡ TRUNCATED) ⊎ (k ≡ RECORD) → (TRUNCATED ≤ k) × (k ≤ SLANTED)
-      one (inl e) = omega arith
-      one (inr e) = omega arith
+      one : (e : Reason) → (e ≡ Truncated) ⊎ (e ≡ Malformed) → (TRUNCATED ≤ number_of e) × (number_of e ≤ SLANTED)
+      one e (inl d) = rw d (omega arith)
+      one e (inr d) = rw d (omega arith)
 
-      go : (r : Record) → record_of c.row t ≡ r → Numbered (by_record name layer r c t)
-      go (Unread k) e = one (unread-number c.row t e)
-      go (Good n k x) e = act-numbered c n x t (treatment_of k)
+      go : (r : Result Record Reason) → record_of c.row t ≡ r → Numbered (by_record name layer r c t)
+      go (Err e) d = one e (unread-reason c.row t d)
+      go (Ok r) d = act-numbered c r.size r.next t (treatment_of r.kind)
 
   module _ (t : List ℕ) {k p : ℕ} (e : read_all name layer t ≡ stopped k p) where
     -- the walk stops with TRUNCATED, RECORD, OPEN or SLANTED, from 12 to 15
@@ -173,11 +175,6 @@ module _ (name : List ℕ) (layer : ℤ) where
 
 module _ (t more : List ℕ) where
   -- what a record's data say stands in the record
-  vertices-append : (n at : ℕ) → at + vertex_size * n ≤ length t → vertices n at (t ++ more) ≡ vertices n at t
-  unfolding vertices vertex_at
-  vertices-append zero at h = refl
-  vertices-append (suc n) at h = rw (number_append 4 at t more (omega arith), number_append 4 (at + 4) t more (omega arith), vertices-append n (at + vertex_size) (omega arith))
-
   layer-append : head_size + 2 ≤ length t → layer_in (t ++ more) ≡ layer_in t
   unfolding layer_in
   layer-append h = ap (signed (2 ^ 15)) (number_append 2 head_size t more h)
@@ -190,7 +187,7 @@ abbrev Uncut : Judged → Type 0
 Uncut (Refused k) = k ≢ TRUNCATED
 Uncut (Over f) = Unit {0}
 Uncut (Passed d) = Unit {0}
-Uncut (Boundary m d) = Unit {0}
+Uncut (Boundary vs d) = Unit {0}
 
 module _ (name : List ℕ) (layer : ℤ) (c : Cursor) (t more : List ℕ) where
   act-append : (n row : ℕ) (u : Treatment) → head_size ≤ n → n ≤ length t → (u ≡ Layer → head_size + 2 ≤ n) → act name layer u c n row (t ++ more) ≡ act name layer u c n row t
@@ -206,15 +203,15 @@ module _ (name : List ℕ) (layer : ℤ) (c : Cursor) (t more : List ℕ) where
   judge-append : {j : Judged} → judge name layer c t ≡ j → Uncut j → judge name layer c (t ++ more) ≡ j
   judge-append {j} e s = go (record_of c.row t) refl
     where
-      go : (r : Record) → record_of c.row t ≡ r → judge name layer c (t ++ more) ≡ j
-      go (Unread k) d =
-          let f : judge name layer c t ≡ Refused k = sym (judge-unread name layer c t d) in
-          let n : k ≢ TRUNCATED = subst Uncut (sym e ∙ f) s in
-          sym (judge-unread name layer c (t ++ more) (record-append t more c.row d (λ i. n (cc)))) ∙ sym f ∙ e
-      go (Good n k x) d =
+      go : (r : Result Record Reason) → record_of c.row t ≡ r → judge name layer c (t ++ more) ≡ j
+      go (Err k) d =
+          let f : judge name layer c t ≡ Refused (number_of k) = sym (judge-unread name layer c t d) in
+          let n : number_of k ≢ TRUNCATED = subst Uncut (sym e ∙ f) s in
+          sym (judge-unread name layer c (t ++ more) (record-append t more c.row d (λ i. let d : k ≡ Truncated = cc in n (ap number_of d)))) ∙ sym f ∙ e
+      go (Ok r) d =
           let z = good-sized c.row t d in
           sym (judge-good name layer c (t ++ more) (record-append t more c.row d (λ i. let z : ◌≡◌ {A = ℕ} 0 1 = cc in absurd (omega arith))))
-          ∙ act-append n x (treatment_of k) z.least z.most (layer-sized c.row t d)
+          ∙ act-append r.size r.next (treatment_of r.kind) z.least z.most (layer-sized c.row t d)
           ∙ judge-good name layer c t d
           ∙ e
 
@@ -241,10 +238,7 @@ module _ (name : List ℕ) (layer : ℤ) (t : List ℕ) where
     course-stays (refused {c} h e) s = refused (longer h) (record-stays c h e s)
     course-stays (ended {c} h e) s = ended (longer h) (record-stays c h e tt)
     course-stays (passed {c} h e w) s = passed (longer h) (record-stays c h e tt) (course-stays w s)
-    course-stays (outlined {c} {d} {m} {o} h e w) s =
-        let g = boundary-ahead name layer c (drop c.at t) e in
-        let v : vertices m (c.at + head_size) (t ++ more) ≡ vertices m (c.at + head_size) t = vertices-append t more m (c.at + head_size) (omega (arith, g.0.most, g.1, length-drop c.at t)) in
-        subst (λ (vs : List Point). Course name layer (t ++ more) c (before vs o)) v (outlined (longer h) (record-stays c h e tt) (course-stays w (settled-rest (vertices m (c.at + head_size) t) o s)))
+    course-stays (outlined {c} {vs = vs} {o = o} h e w) s = outlined (longer h) (record-stays c h e tt) (course-stays w (settled-rest vs o s))
 
     walk-stays : Settled (read_all name layer t) → read_all name layer (t ++ more) ≡ read_all name layer t
     unfolding read_all

@@ -2,53 +2,49 @@
 use mathlib.Core.Path.{◌≡◌, refl, sym, ap, ◌∙◌, subst}
 use Prim.Native.Nat.{ℕ, zero, suc, ◌+◌, ◌-◌, ◌*◌, ◌/◌, ◌≤◌, ◌<◌}
 use native.Mathlib.Omega.{arith}
-use mathlib.Core.Bool.{Bool, ◌&&◌}
+use mathlib.Core.Bool.{Bool, false, ◌&&◌}
 use mathlib.Core.List.{List, [], ◌∷◌}
 use lib.ListN.{length, drop, length-drop, drop_of_length-le}
 use lib.Seq.{drop-cons, drop-drop}
 use lib.IntN.{ℤ}
 use lib.Dec.{eqb}
+use Rattle.std.specs.Prelude.{Result, Ok, Err}
 use Rattle.plane.specs.declared.Point.{Point}
 use Rattle.plane.proofs.Bools.{cond-case}
+use Rattle.entry.specs.declared.Reason.{Reason}
+use Rattle.entry.specs.Refusals.{number_of}
 use Rattle.boundaries.specs.Boundary.{is_open, slanted}
 use Rattle.records.specs.declared.Treatment.{Treatment}
 use Rattle.records.specs.declared.Treatment.TheVariants.{End, Name, Leave, Refer, Layer, Vertices, Unknown, Skip}
 use Rattle.records.specs.declared.Record.{Record}
-use Rattle.records.specs.declared.Record.TheVariants.{Refused as Unread, Good}
 use Rattle.records.specs.Records.{TRUNCATED, head_size, treatment_of, record_of}
 use Rattle.records.proofs.Heads.{good-sized}
 use Rattle.gdsii.specs.declared.Cursor.{Cursor}
-use Rattle.gdsii.specs.declared.Judged.{Judged}
-use Rattle.gdsii.specs.declared.Judged.TheVariants.{Refused, Over, Passed, Boundary}
-use Rattle.gdsii.specs.declared.Shape.TheVariants.{Fine}
-use Rattle.gdsii.specs.Walk.{vertex_size, vertices, moved, by_shape, act, by_record, judge, boundary_xy, stopped, walked, before, onward, read_from}
-use Rattle.gdsii.specs.Inner.{shape_of, Ready}
-use Rattle.gdsii.proofs.Vertices.{length-vertices, vertices-drop}
+use Rattle.gdsii.specs.Walk.{vertex_size, vertices, Judged, Refused, Over, Passed, Boundary, moved, by_shape, act, by_record, judge, boundary_xy, stopped, walked, before, onward, read_from}
+use Rattle.gdsii.specs.Inner.{Ready}
+use Rattle.gdsii.proofs.Shapes.{length-vertices}
 
 -- ---- Where a record leaves the cursor
 
--- of a record of n bytes, the first of t; a boundary's vertices are in it, closed and not slanted
-abbrev Goes : Cursor → (n : ℕ) (t : List ℕ) → Judged → Type 0
-Goes c n t (Refused k) = Unit {0}
-Goes c n t (Over f) = Unit {0}
-Goes c n t (Passed d) = d.at ≡ c.at + n
-Goes c n t (Boundary m d) = (d.at ≡ c.at + n) × (head_size + vertex_size * m ≤ n) × (shape_of (vertices m head_size t) ≡ Fine)
+-- of a record of n bytes; a boundary's vertices are in it, closed and not slanted
+abbrev Goes : Cursor → (n : ℕ) → Judged → Type 0
+Goes c n (Refused k) = Unit {0}
+Goes c n (Over f) = Unit {0}
+Goes c n (Passed d) = d.at ≡ c.at + n
+Goes c n (Boundary vs d) = (d.at ≡ c.at + n) × (head_size + vertex_size * length vs ≤ n) × (is_open vs ≡ false) × (slanted vs ≡ false)
 
 module _ (name : List ℕ) (layer : ℤ) (c : Cursor) (n row : ℕ) (t : List ℕ) (h : head_size ≤ n) where
-  shape-goes : (m : ℕ) → head_size + vertex_size * m ≤ n → (d : Cursor) → d.at ≡ c.at + n → Goes c n t (by_shape (vertices m head_size t) d)
-  shape-goes m g d p =
-      cond-case (Goes c n t) (is_open (vertices m head_size t)) (λ e. tt)
-      (λ e. cond-case (Goes c n t) (slanted (vertices m head_size t)) (λ f. tt)
-      (λ f. (p, omega (arith, length-vertices m head_size t), rw (length-vertices m head_size t, e, f))))
+  shape-goes : (vs : List Point) → head_size + vertex_size * length vs ≤ n → (d : Cursor) → d.at ≡ c.at + n → Goes c n (by_shape vs d)
+  shape-goes vs g d p = cond-case (Goes c n) (is_open vs) (λ e. tt) (λ e. cond-case (Goes c n) (slanted vs) (λ f. tt) (λ f. (p, g, e, f)))
 
-  act-goes : (u : Treatment) → Goes c n t (act name layer u c n row t)
+  act-goes : (u : Treatment) → Goes c n (act name layer u c n row t)
   act-goes End = tt
   act-goes Name = refl
   act-goes Leave = refl
-  act-goes Refer = cond-case (Goes c n t) c.reading (λ e. tt) (λ e. refl)
+  act-goes Refer = cond-case (Goes c n) c.reading (λ e. tt) (λ e. refl)
   act-goes Layer = refl
   act-goes Vertices =
-      cond-case (Goes c n t) (eqb c.row boundary_xy && (c.reading && c.asked)) (λ e. shape-goes ((n - head_size) / vertex_size) (omega arith) (moved c n row c.found c.reading c.asked) refl)
+      cond-case (Goes c n) (eqb c.row boundary_xy && (c.reading && c.asked)) (λ e. shape-goes (vertices ((n - head_size) / vertex_size) head_size t) (omega (arith, length-vertices ((n - head_size) / vertex_size) head_size t)) (moved c n row c.found c.reading c.asked) refl)
       (λ e. refl)
   act-goes Unknown = tt
   act-goes Skip = refl
@@ -63,29 +59,29 @@ module _ (name : List ℕ) (layer : ℤ) (c : Cursor) (t : List ℕ) where
   unfolding judge
   passed-ahead {d} e = go (record_of c.row t) refl e
     where
-      go : (r : Record) → record_of c.row t ≡ r → by_record name layer r c t ≡ Passed d → Ahead c t d
-      go (Unread k) f e = let z : ◌≡◌ {A = ℕ} 0 1 = cc in absurd (omega arith)
-      go (Good n k x) f e =
+      go : (r : Result Record Reason) → record_of c.row t ≡ r → by_record name layer r c t ≡ Passed d → Ahead c t d
+      go (Err k) f e = let z : ◌≡◌ {A = ℕ} 0 1 = cc in absurd (omega arith)
+      go (Ok r) f e =
           let s = good-sized c.row t f in
-          let g : Goes c n t (Passed d) = subst (Goes c n t) e (act-goes name layer c n x t s.least (treatment_of k)) in
+          let g : Goes c r.size (Passed d) = subst (Goes c r.size) e (act-goes name layer c r.size r.next t s.least (treatment_of r.kind)) in
           record { least = omega (arith, g, s.least); most = omega (arith, g, s.most) }
 
-  pub boundary-ahead : {m : ℕ} {d : Cursor} → judge name layer c t ≡ Boundary m d → Ahead c t d × (c.at + head_size + vertex_size * m ≤ d.at) × (shape_of (vertices m head_size t) ≡ Fine)
+  pub boundary-ahead : {vs : List Point} {d : Cursor} → judge name layer c t ≡ Boundary vs d → Ahead c t d × (c.at + head_size + vertex_size * length vs ≤ d.at) × (is_open vs ≡ false) × (slanted vs ≡ false)
   unfolding judge
-  boundary-ahead {m} {d} e = go (record_of c.row t) refl e
+  boundary-ahead {vs} {d} e = go (record_of c.row t) refl e
     where
-      go : (r : Record) → record_of c.row t ≡ r → by_record name layer r c t ≡ Boundary m d → Ahead c t d × (c.at + head_size + vertex_size * m ≤ d.at) × (shape_of (vertices m head_size t) ≡ Fine)
-      go (Unread k) f e = let z : ◌≡◌ {A = ℕ} 0 1 = cc in absurd (omega arith)
-      go (Good n k x) f e =
+      go : (r : Result Record Reason) → record_of c.row t ≡ r → by_record name layer r c t ≡ Boundary vs d → Ahead c t d × (c.at + head_size + vertex_size * length vs ≤ d.at) × (is_open vs ≡ false) × (slanted vs ≡ false)
+      go (Err k) f e = let z : ◌≡◌ {A = ℕ} 0 1 = cc in absurd (omega arith)
+      go (Ok r) f e =
           let s = good-sized c.row t f in
-          let g : Goes c n t (Boundary m d) = subst (Goes c n t) e (act-goes name layer c n x t s.least (treatment_of k)) in
-          (record { least = omega (arith, g.0, s.least); most = omega (arith, g.0, s.most) }, omega (arith, g.0, g.1), g.2)
+          let g : Goes c r.size (Boundary vs d) = subst (Goes c r.size) e (act-goes name layer c r.size r.next t s.least (treatment_of r.kind)) in
+          (record { least = omega (arith, g.0, s.least); most = omega (arith, g.0, s.most) }, omega (arith, g.0, g.1), g.2, g.3)
 
-  pub judge-unread : {k : ℕ} → record_of c.row t ≡ Unread k → Refused k ≡ judge name layer c t
+  pub judge-unread : {e : Reason} → record_of c.row t ≡ Err e → Refused (number_of e) ≡ judge name layer c t
   unfolding judge
   judge-unread e = rw e
 
-  pub judge-good : {n k x : ℕ} → record_of c.row t ≡ Good n k x → act name layer (treatment_of k) c n x t ≡ judge name layer c t
+  pub judge-good : {r : Record} → record_of c.row t ≡ Ok r → act name layer (treatment_of r.kind) c r.size r.next t ≡ judge name layer c t
   unfolding judge
   judge-good e = rw e
 
@@ -99,7 +95,7 @@ module _ (name : List ℕ) (layer : ℤ) where
   read-skip c (suc k) (b ∷ bs) = read-skip c k bs
 
   module _ (c : Cursor) (t : List ℕ) (h : c.at < length t) where
-    read-record : read_from name layer c 0 (drop c.at t) ≡ onward name layer (judge name layer c (drop c.at t)) c.at (drop c.at t) (λ d. read_from name layer d (d.at - c.at - 1) (drop (suc c.at) t))
+    read-record : read_from name layer c 0 (drop c.at t) ≡ onward (judge name layer c (drop c.at t)) c.at (λ d. read_from name layer d (d.at - c.at - 1) (drop (suc c.at) t))
     unfolding read_from
     read-record = rw (drop-cons t c.at 0 h)
 
@@ -118,15 +114,14 @@ module _ (name : List ℕ) (layer : ℤ) where
     pub read-passes : {d : Cursor} → judge name layer c (drop c.at t) ≡ Passed d → read_from name layer d 0 (drop d.at t) ≡ read_from name layer c 0 (drop c.at t)
     read-passes {d} e = sym (read-record ∙ rw e (read-on d (passed-ahead name layer c (drop c.at t) e)))
 
-    pub read-outline : {m : ℕ} {d : Cursor} → judge name layer c (drop c.at t) ≡ Boundary m d → before (vertices m (c.at + head_size) t) (read_from name layer d 0 (drop d.at t)) ≡ read_from name layer c 0 (drop c.at t)
-    read-outline {m} {d} e =
-        sym (read-record ∙ rw e (ap (before (vertices m head_size (drop c.at t))) (read-on d (boundary-ahead name layer c (drop c.at t) e).0) ∙ ap (λ (vs : List Point). before vs (read_from name layer d 0 (drop d.at t))) (vertices-drop c.at t m head_size)))
+    pub read-outline : {vs : List Point} {d : Cursor} → judge name layer c (drop c.at t) ≡ Boundary vs d → before vs (read_from name layer d 0 (drop d.at t)) ≡ read_from name layer c 0 (drop c.at t)
+    read-outline {vs} {d} e = sym (read-record ∙ rw e (ap (before vs) (read-on d (boundary-ahead name layer c (drop c.at t) e).0)))
 
     -- a boundary that is found is in the stream, and the walk can go on after it
-    pub outline-ready : {m : ℕ} {d : Cursor} → judge name layer c (drop c.at t) ≡ Boundary m d → Ready t c (c.at + head_size) m d
-    outline-ready {m} {d} e =
+    pub outline-ready : {vs : List Point} {d : Cursor} → judge name layer c (drop c.at t) ≡ Boundary vs d → Ready t c vs d
+    outline-ready {vs} {d} e =
         let g = boundary-ahead name layer c (drop c.at t) e in
-        record { fine = ap shape_of (sym (vertices-drop c.at t m head_size)) ∙ g.2; inside = g.1; ahead = omega arith; within = omega (arith, g.0.most, length-drop c.at t) }
+        record { shut = g.2; square = g.3; ahead = g.1; within = omega (arith, g.0.most, length-drop c.at t) }
 
   pub read-end : (c : Cursor) (t : List ℕ) → length t ≤ c.at → stopped TRUNCATED c.at ≡ read_from name layer c 0 (drop c.at t)
   unfolding read_from

@@ -3,9 +3,8 @@ use Rattle.std.specs.Prelude.{ℕ, ◌*◌, ◌/◌, ◌≤◌, ◌≡◌, Bool,
 use mathlib.Core.List.{List, [], ◌∷◌, Memᴰ as In}
 use Rattle.plane.specs.declared.Point.{Point}
 use Rattle.plane.specs.Words.{most_points, flat_points, point_in_range}
-use Rattle.entry.specs.declared.Counted.{Counted}
 use Rattle.entry.specs.Checks.{Verdict, refused, Check, whole, met}
-use Rattle.entry.specs.Entry.{Done}
+use Rattle.entry.specs.Entry.{Done, Counted}
 use Rattle.rule.specs.Rows.{MANY, RANGE, ROOM}
 use Rattle.boundaries.specs.Boundary.{handed_on, markers, overlaps}
 use Rattle.records.specs.Records.{TRUNCATED, RECORD}

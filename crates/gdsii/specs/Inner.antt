@@ -1,59 +1,80 @@
 -- What the private functions speak of. No caller needs these definitions.
-use Rattle.std.specs.Prelude.{ℕ, suc, ◌+◌, ◌-◌, ◌*◌, ◌/◌, ◌≤◌, ◌≡◌, Bool, not, cond, ◌&&◌, List, [], ◌∷◌, length, drop, ℤ, ltb, leb}
+use Rattle.std.specs.Prelude.{ℕ, suc, ◌+◌, ◌*◌, ◌/◌, ◌≤◌, ◌≡◌, Bool, false, not, cond, ◌&&◌, Option, None, Some, Result, Ok, Err, List, [], ◌∷◌, length, drop, ℤ, ltb, leb}
 use Rattle.plane.specs.declared.Point.{Point}
 use Rattle.plane.specs.Lists.{put_at}
 use Rattle.plane.specs.Words.{most_points, points_of, flat_points, marks, cells}
-use Rattle.entry.specs.declared.Counted.{Counted}
+use Rattle.entry.specs.declared.Reason.{Reason}
+use Rattle.entry.specs.declared.Reason.TheVariants.{Open, Slanted}
+use Rattle.entry.specs.declared.Refusal.{Refusal}
+use Rattle.entry.specs.Refusals.{number_of}
 use Rattle.entry.specs.Checks.{Check, whole}
-use Rattle.entry.specs.Entry.{Done}
+use Rattle.entry.specs.Entry.{Done, Counted}
 use Rattle.rule.specs.Rows.{RANGE, ROW, COLUMN, MANY, ROOM}
 use Rattle.area.specs.Area.{area_says}
 use Rattle.boundaries.specs.Boundary.{edge, horizontal, vertical, is_open, slanted, boundary_corners, handed_on}
 use Rattle.boundaries.specs.Inner.{add_capped}
 use Rattle.records.specs.Records.{head_size}
 use Rattle.gdsii.specs.declared.Cursor.{Cursor}
-use Rattle.gdsii.specs.declared.Shape.{Shape}
-use Rattle.gdsii.specs.declared.Shape.TheVariants.{Open, Slanted, Fine}
-use Rattle.gdsii.specs.declared.Found.{Found}
-use Rattle.gdsii.specs.declared.Found.TheVariants.{Halted, Finished, Outline}
+use Rattle.gdsii.specs.declared.Reader.{Reader}
+use Rattle.gdsii.specs.declared.Vertices.{Vertices}
+use Rattle.gdsii.specs.declared.Step.{Step}
+use Rattle.gdsii.specs.declared.Step.TheVariants.{End, Pass, Read}
 use Rattle.gdsii.specs.declared.Gathered.{Gathered}
-use Rattle.gdsii.specs.declared.Gathered.TheVariants.{Stopped, Whole}
-use Rattle.gdsii.specs.Walk.{vertex_size, vertices, Outcome, stopped, walked, before, read_from}
+use Rattle.gdsii.specs.Walk.{vertex_size, vertices, Judged, Refused, Over, Passed, Boundary, Outcome, stopped, walked, before, read_from, read_all}
 use Rattle.gdsii.specs.Call.{corners_in, read_checks}
 
+-- ---- The walk of a stream
+
+-- from a cursor on
+abbrev pub walk_from : Reader → Cursor → Outcome
+walk_from s c = read_from s.name.now s.layer c 0 (drop c.at s.bytes.now)
+
+-- all of it
+abbrev pub whole_walk : Reader → Outcome
+whole_walk s = read_all s.name.now s.layer s.bytes.now
+
 -- ---- Vertices
+
+-- those that are still to come
+unfoldable pub vertices_left : Vertices → List Point
+vertices_left v = vertices (length v.bytes.now / vertex_size) 0 v.bytes.now
 
 -- an edge that is neither horizontal nor vertical
 abbrev pub is_slanted : Point → Point → Bool
 is_slanted p q = not (horizontal (edge p q)) && not (vertical (edge p q))
 
--- what the vertices of a boundary are
-abbrev pub shape_of : List Point → Shape
-shape_of vs = cond (is_open vs) Open (cond (slanted vs) Slanted Fine)
+-- whether the vertices of a boundary are refused
+abbrev pub shape_of : List Point → Result (Unit {0}) Reason
+shape_of vs = cond (is_open vs) (Err Open) (cond (slanted vs) (Err Slanted) (Ok tt))
 
--- the vertices of a boundary of so many, from a place on, after the first i
-abbrev pub rest : List ℕ → (from count i : ℕ) → List Point
-rest t from count i = vertices (count - i) (from + vertex_size * i) t
+-- ---- One record
+
+-- what the step from a cursor tells of the record there
+abbrev pub told_step : Cursor → Result Step Reason → Judged
+told_step c (Err r) = Refused (number_of r)
+told_step c (Ok End) = Over c.found
+told_step c (Ok (Pass d)) = Passed d
+told_step c (Ok (Read v d)) = Boundary (vertices_left v) d
 
 -- ---- The next boundary
 
 -- the walk that begins where the code found something
-abbrev pub resume : (name : List ℕ) (layer : ℤ) → List ℕ → Found → Outcome
-resume name layer t (Halted k p) = stopped k p
-resume name layer t (Finished f) = walked f []
-resume name layer t (Outline from m d) = before (vertices m from t) (read_from name layer d 0 (drop d.at t))
+abbrev pub resume : Reader → Result (Option Vertices × Cursor) Refusal → Outcome
+resume s (Err e) = stopped (number_of e.reason) e.place
+resume s (Ok (None, d)) = walked d.found []
+resume s (Ok (Some v, d)) = before (vertices_left v) (walk_from s d)
 
--- a boundary that is found after a cursor is in the stream, closed and not slanted, and the walk can go on after it
-pub record Ready (t : List ℕ) (c : Cursor) (from m : ℕ) (d : Cursor) : Type 0 where
-  pub fine : shape_of (vertices m from t) ≡ Fine
-  pub inside : from + vertex_size * m ≤ d.at
-  pub ahead : c.at + head_size ≤ from
+-- a boundary that is found after a cursor is closed and not slanted, its vertices are in the stream, and the walk can go on after it
+pub record Ready (t : List ℕ) (c : Cursor) (vs : List Point) (d : Cursor) : Type 0 where
+  pub shut : is_open vs ≡ false
+  pub square : slanted vs ≡ false
+  pub ahead : c.at + head_size + vertex_size * length vs ≤ d.at
   pub within : d.at ≤ length t
 
-abbrev pub Usable : List ℕ → Cursor → Found → Type 0
-Usable t c (Halted k p) = Unit {0}
-Usable t c (Finished f) = Unit {0}
-Usable t c (Outline from m d) = Ready t c from m d
+abbrev pub Usable : Reader → Cursor → Result (Option Vertices × Cursor) Refusal → Type 0
+Usable s c (Err e) = Unit {0}
+Usable s c (Ok (None, d)) = Unit {0}
+Usable s c (Ok (Some v, d)) = Ready s.bytes.now c (vertices_left v) d
 
 -- ---- Corners in an array
 
@@ -81,8 +102,18 @@ unfoldable pub area_from : (n area : ℕ) → List (List Point) → ℕ
 area_from n area [] = area
 area_from n area (vs ∷ bs) = area_from (n + length (boundary_corners vs)) (area_with n (length (boundary_corners vs)) area (boundary_corners vs)) bs
 
+-- what is gathered: stopped by a refusal at a place; or whether the structure was found, how many corners there are, and the sum
+pub data Gathering : Type 0 where
+  Stopped : (number place : ℕ) → Gathering
+  Whole : (found : Bool) (count area : ℕ) → Gathering
+
+-- what the code tells of it
+abbrev pub told_gathered : Result Gathered Refusal → Gathering
+told_gathered (Err e) = Stopped (number_of e.reason) e.place
+told_gathered (Ok g) = Whole g.found g.count g.area
+
 -- what is gathered of the rest of the walk, after n corners
-abbrev pub gathered : Outcome → (n area : ℕ) → Gathered
+abbrev pub gathered : Outcome → (n area : ℕ) → Gathering
 gathered (stopped k p) n area = Stopped k p
 gathered (walked f bs) n area = Whole f (n + length (handed_on bs)) (area_from n area bs)
 

@@ -1,17 +1,16 @@
 -- The walk over a stream: each record acted on, skipped or refused, up to ENDLIB, and the boundaries of one layer in the first structure of a name.
-use Rattle.std.specs.Prelude.{ℕ, zero, suc, ◌+◌, ◌-◌, ◌/◌, ◌^◌, ◌≤◌, ◌<◌, ◌≡◌, Bool, true, false, cond, ◌&&◌, ◌||◌, not, List, [], ◌∷◌, length, take, drop, ℤ, eqb}
+use Rattle.std.specs.Prelude.{ℕ, zero, suc, ◌+◌, ◌-◌, ◌/◌, ◌^◌, ◌≤◌, ◌<◌, ◌≡◌, Bool, true, false, cond, ◌&&◌, ◌||◌, not, Result, Ok, Err, List, [], ◌∷◌, length, take, drop, ℤ, eqb}
 use Rattle.plane.specs.declared.Point.{Point}
 use Rattle.plane.specs.Words.{eq_z}
 use Rattle.bigendian.specs.Numbers.{number_at, signed}
+use Rattle.entry.specs.declared.Reason.{Reason}
+use Rattle.entry.specs.Refusals.{number_of}
 use Rattle.boundaries.specs.Boundary.{is_open, slanted}
 use Rattle.records.specs.declared.Treatment.{Treatment}
 use Rattle.records.specs.declared.Treatment.TheVariants.{End, Name, Leave, Refer, Layer, Vertices, Unknown, Skip}
 use Rattle.records.specs.declared.Record.{Record}
-use Rattle.records.specs.declared.Record.TheVariants.{Refused as Unread, Good}
 use Rattle.records.specs.Records.{TRUNCATED, RECORD, head_size, treatment_of, record_of}
 use Rattle.gdsii.specs.declared.Cursor.{Cursor}
-use Rattle.gdsii.specs.declared.Judged.{Judged}
-use Rattle.gdsii.specs.declared.Judged.TheVariants.{Refused, Over, Passed, Boundary}
 
 -- ---- The refusals of a boundary that is read
 
@@ -59,9 +58,16 @@ boundary_xy = 32
 abbrev pub moved : Cursor → (n row : ℕ) → (found reading asked : Bool) → Cursor
 moved c n row found reading asked = record { at = c.at + n; row = row; found = found; reading = reading; asked = asked }
 
--- a boundary that is read: OPEN, SLANTED, or so many vertices
+-- what a record at a cursor is: refused, the end, passed, or a boundary that is read
+pub data Judged : Type 0 where
+  Refused : (number : ℕ) → Judged
+  Over : (found : Bool) → Judged
+  Passed : (next : Cursor) → Judged
+  Boundary : (vertices : List Point) (next : Cursor) → Judged
+
+-- a boundary that is read: OPEN, SLANTED, or its vertices
 abbrev pub by_shape : List Point → Cursor → Judged
-by_shape vs next = cond (is_open vs) (Refused OPEN) (cond (slanted vs) (Refused SLANTED) (Boundary (length vs) next))
+by_shape vs next = cond (is_open vs) (Refused OPEN) (cond (slanted vs) (Refused SLANTED) (Boundary vs next))
 
 module _ (name : List ℕ) (layer : ℤ) where
   -- a good record of n bytes, the first of t, that leads to a row: acted on, skipped or refused
@@ -80,9 +86,9 @@ module _ (name : List ℕ) (layer : ℤ) where
   act Skip c n row t = Passed (moved c n row c.found c.reading c.asked)
 
   -- a record that is refused by itself, or a good one
-  abbrev pub by_record : Record → Cursor → List ℕ → Judged
-  by_record (Unread k) c t = Refused k
-  by_record (Good n k row) c t = act (treatment_of k) c n row t
+  abbrev pub by_record : Result Record Reason → Cursor → List ℕ → Judged
+  by_record (Err e) c t = Refused (number_of e)
+  by_record (Ok r) c t = act (treatment_of r.kind) c r.size r.next t
 
   -- the record that bytes begin with, at a cursor
   unfoldable pub judge : Cursor → List ℕ → Judged
@@ -104,19 +110,19 @@ before vs (walked f bs) = walked f (vs ∷ bs)
 abbrev pub start : Cursor
 start = record { at = 0; row = 1; found = false; reading = false; asked = false }
 
-module _ (name : List ℕ) (layer : ℤ) where
-  -- what the record that t begins with, at a file place, makes of the walk; `rest` is the walk from a later cursor
-  abbrev pub onward : Judged → (at : ℕ) (t : List ℕ) (rest : Cursor → Outcome) → Outcome
-  onward (Refused k) at t rest = stopped k at
-  onward (Over f) at t rest = walked f []
-  onward (Passed c) at t rest = rest c
-  onward (Boundary m c) at t rest = before (vertices m head_size t) (rest c)
+-- what a record at a file place makes of the walk; `rest` is the walk from a later cursor
+abbrev pub onward : Judged → (at : ℕ) (rest : Cursor → Outcome) → Outcome
+onward (Refused k) at rest = stopped k at
+onward (Over f) at rest = walked f []
+onward (Passed c) at rest = rest c
+onward (Boundary vs c) at rest = before vs (rest c)
 
+module _ (name : List ℕ) (layer : ℤ) where
   -- from a cursor, whose place comes after so many bytes more; where the bytes end, it is TRUNCATED at the cursor's place
   unfoldable pub read_from : Cursor → (skip : ℕ) → List ℕ → Outcome
   read_from c skip [] = stopped TRUNCATED c.at
   read_from c (suc k) (b ∷ bs) = read_from c k bs
-  read_from c zero (b ∷ bs) = onward (judge name layer c (b ∷ bs)) c.at (b ∷ bs) (λ d. read_from d (d.at - c.at - 1) bs)
+  read_from c zero (b ∷ bs) = onward (judge name layer c (b ∷ bs)) c.at (λ d. read_from d (d.at - c.at - 1) bs)
 
   -- of a whole stream
   unfoldable pub read_all : List ℕ → Outcome
@@ -128,7 +134,7 @@ module _ (name : List ℕ) (layer : ℤ) where
 pub data Visited (name : List ℕ) (layer : ℤ) (t : List ℕ) : Cursor → Type 0 where
   begin : Visited name layer t start
   pass : {c d : Cursor} → Visited name layer t c → c.at < length t → judge name layer c (drop c.at t) ≡ Passed d → Visited name layer t d
-  read : {c d : Cursor} {m : ℕ} → Visited name layer t c → c.at < length t → judge name layer c (drop c.at t) ≡ Boundary m d → Visited name layer t d
+  read : {c d : Cursor} {vs : List Point} → Visited name layer t c → c.at < length t → judge name layer c (drop c.at t) ≡ Boundary vs d → Visited name layer t d
 
 -- it is refused at a cursor: the record there is, or the bytes end where one should start
 pub data RefusedAt (name : List ℕ) (layer : ℤ) (t : List ℕ) (c : Cursor) : (number : ℕ) → Type 0 where

@@ -2,7 +2,7 @@
 // gives the rule's list is shown in proofs/.
 #![tactic(auto)]
 
-// A rectangle that has begun: its left and right side, the row that it begins on, and its place in the list.
+/// A rectangle that has begun: its left and right side, the row that it begins on, and its place in the list.
 #[derive(Clone, Copy)]
 pub struct Live {
     pub left: i32,

@@ -1,188 +1,150 @@
 // Numbers as text, read and printed. What they read as and how they are printed is in specs/Numerals.antt.
 #![tactic(auto)]
 
-ghost use Rattle.std.specs.Prelude.{◌+◌, ◌-◌, ◌*◌, ◌≤◌, ◌<◌, ◌≡◌, true, ◌∷◌, ◌++◌, length, drop, nat_abs};
-ghost use Rattle.numerals.specs.Bytes.{Put};
-ghost use Rattle.numerals.specs.Numerals.{minus, is_digit, value_of, as_plain, as_negative, number_of, numeral, decimal, signed};
-ghost use Rattle.numerals.specs.Inner.{starts_with, found, value_in};
+ghost use Rattle.std.specs.Prelude.{ℕ, ◌+◌, ◌<◌, ◌≤◌, ◌≡◌, List, [], ◌++◌, length, take, drop, IfSome};
+ghost use Rattle.numerals.specs.Bytes.{Put, added};
+ghost use Rattle.numerals.specs.Numerals.{value_of, number_of, decimal, signed};
 
-// What bytes read as: a number of 32 bits with a sign, or none.
-#[derive(Clone, Copy)]
-pub enum Numeral {
-    Number { value: i32 },
-    Bad,
-}
-
-const MINUS: u8 = 45;
+use std::marker::Model;
 
 // ---- Reading
 
-// The value of digits, if they are one to ten.
-#[derive(Clone, Copy)]
-enum Digits {
-    Value { value: u64 },
-    Bad,
-}
-
-fn is_digit(b: u8) -> bool
-    ensures { result ≡ is_digit b }
+// The value of digits, if they are one to ten. `str::parse` would also take a plus sign, and more than ten digits that begin with zeros.
+fn value_of(digits: &[u8]) -> Option<u64>
+    ensures value { result ≡ value_of digits.now }
+    ensures bound { IfSome result (λ n. n < 10_000_000_000) }
 {
-    (48 <= b) & (b <= 57)
-}
-
-// The number whose last digit is b, after those of n.
-fn with_digit(n: u64, b: u8) -> u64
-    requires { (n < 1_000_000_000) × (is_digit b ≡ true) }
-    ensures { result ≡ 10 * n + (b - 48) }
-{
-    10 * n + (b - 48) as u64
-}
-
-fn value_of(bytes: &[u8]) -> Digits
-    ensures { result ≡ found (value_of bytes.now) }
-{
-    if bytes.len() == 0 {
-        return Digits::Bad;
+    if digits.is_empty() || digits.len() > 10 {
+        return None;
     }
-    if 10 < bytes.len() {
-        return Digits::Bad;
-    }
-    let mut value: u64 = 0;
-    let mut i = 0;
-    while i < bytes.len() {
-        let b = bytes[i];
-        if !is_digit(b) {
-            return Digits::Bad;
+    let mut value = 0;
+    for b in digits {
+        if !b.is_ascii_digit() {
+            return None;
         }
-        value = with_digit(value, b);
-        i += 1;
+        value = 10 * value + u64::from(b - b'0');
     }
-    Digits::Value { value: value }
+    Some(value)
 }
 
-fn starts_with_minus(bytes: &[u8]) -> bool
-    ensures { result ≡ starts_with minus bytes.now }
+/// The number that the bytes are: an optional minus and one to ten digits that fit.
+pub fn number_of(bytes: &[u8]) -> Option<i32>
+    ensures { result ≡ number_of bytes.now }
 {
-    if bytes.len() == 0 {
-        return false;
+    match bytes.strip_prefix(b"-") {
+        Some(digits) => i32::try_from(-(value_of(digits)? as i64)).ok(),
+        None => i32::try_from(value_of(bytes)?).ok(),
     }
-    bytes[0] == MINUS
-}
-
-fn plain(digits: Digits) -> Numeral
-    ensures { result ≡ numeral (as_plain (value_in digits)) }
-{
-    match digits {
-        Digits::Value { value } => {
-            if value <= 2147483647 {
-                Numeral::Number {
-                    value: value as i32,
-                }
-            } else {
-                Numeral::Bad
-            }
-        }
-        Digits::Bad => Numeral::Bad,
-    }
-}
-
-fn negative(digits: Digits) -> Numeral
-    ensures { result ≡ numeral (as_negative (value_in digits)) }
-{
-    match digits {
-        Digits::Value { value } => {
-            if value <= 2147483648 {
-                Numeral::Number {
-                    value: (0 - value as i64) as i32,
-                }
-            } else {
-                Numeral::Bad
-            }
-        }
-        Digits::Bad => Numeral::Bad,
-    }
-}
-
-// The number that the bytes are: an optional minus and one to ten digits that fit.
-pub fn number_of(bytes: &[u8]) -> Numeral
-    ensures { result ≡ numeral (number_of bytes.now) }
-{
-    if starts_with_minus(bytes) {
-        return negative(value_of(&bytes[1..]));
-    }
-    plain(value_of(bytes))
 }
 
 // ---- Printing
 
-// Puts a number's digits at the start of an output, and gives how many they are.
+// Puts a number's digits at the start of an output, and gives how many they are. `write!` would promise them only where it succeeds.
 fn spell(out: &mut [u8], n: u64) -> usize
     requires { length (decimal n) ≤ length out.old }
     ensures value { result ≡ length (decimal n) }
     ensures out_after { out.new ≡ decimal n ++ drop (length (decimal n)) out.old }
 {
     if n < 10 {
-        out[0] = 48 + n as u8;
+        out[0] = b'0' + n as u8;
         return 1;
     }
     let at = spell(out, n / 10);
-    out[at] = 48 + (n % 10) as u8;
+    out[at] = b'0' + (n % 10) as u8;
     at + 1
 }
 
-// Puts bytes into an output from a place on, if all have room, and gives the place after them; otherwise the output and the place stay.
+/// Puts bytes into an output from a place on, if all have room, and gives the place after them; otherwise the output and the place stay.
 pub fn put_bytes(out: &mut [u8], at: usize, bytes: &[u8]) -> usize
     ensures { Put out.old at bytes.now result out.new }
 {
-    if out.len() < bytes.len() {
+    let Some(end) = at.checked_add(bytes.len()) else {
+        return at;
+    };
+    if end > out.len() {
         return at;
     }
-    if out.len() - bytes.len() < at {
-        return at;
-    }
-    let mut i = 0;
-    while i < bytes.len() {
-        let b = bytes[i];
-        out[at + i] = b;
-        i += 1;
-    }
-    at + bytes.len()
+    out[at..end].copy_from_slice(bytes);
+    end
 }
 
-// Puts a number's digits, as put_bytes does.
+/// Puts a number's digits, as put_bytes does.
 pub fn put_number(out: &mut [u8], at: usize, n: u64) -> usize
     ensures { Put out.old at (decimal n) result out.new }
 {
-    let mut digits: [u8; 20] = [0; 20];
+    let mut digits = [0; 20];
     let k = spell(&mut digits, n);
     put_bytes(out, at, &digits[..k])
 }
 
-// Puts a minus and a number's digits, as put_bytes does.
-fn put_negative(out: &mut [u8], at: usize, n: u64) -> usize
-    ensures { Put out.old at (minus ∷ decimal n) result out.new }
-{
-    let mut digits: [u8; 21] = [MINUS; 21];
-    let k = spell(&mut digits[1..], n);
-    put_bytes(out, at, &digits[..k + 1])
-}
-
-// How far a number is from 0.
-fn magnitude(z: i32) -> u64
-    ensures { result ≡ nat_abs z }
-{
-    if z < 0 {
-        return (0 - z as i64) as u64;
-    }
-    z as u64
-}
-
-// Puts a number with its sign, as put_bytes does.
+/// Puts a number with its sign, as put_bytes does.
 pub fn put_signed(out: &mut [u8], at: usize, z: i32) -> usize
     ensures { Put out.old at (signed z) result out.new }
 {
-    if z < 0 {
-        return put_negative(out, at, magnitude(z));
+    let n = u64::from(z.unsigned_abs());
+    if z >= 0 {
+        return put_number(out, at, n);
     }
-    put_number(out, at, magnitude(z))
+    let mut digits = [b'-'; 11];
+    let k = spell(&mut digits[1..], n);
+    put_bytes(out, at, &digits[..=k])
+}
+
+// ---- A page
+
+/// Bytes that are written one after another, at most N of them.
+#[derive(Drop)]
+pub struct Page<const N: usize> {
+    room: [u8; N],
+    len: usize,
+}
+
+// Clauses see the bytes that are written.
+impl<const N: usize> Model for Page<N> {
+    ghost Value = { List ℕ };
+
+    ghost view = { λ p. take p.len p.room };
+
+    ghost invariant = { λ p. p.len ≤ N };
+}
+
+impl<const N: usize> Page<N> {
+    /// A page with nothing on it.
+    pub fn new() -> Self
+        ensures { result ≡ [] }
+    {
+        Page {
+            room: [0; N],
+            len: 0,
+        }
+    }
+
+    /// What is written.
+    pub fn bytes(&self) -> &[u8]
+        ensures value { result.now ≡ self.now }
+        ensures bound { length self.now ≤ N }
+    {
+        &self.room[..self.len]
+    }
+
+    /// Adds bytes, if all have room; otherwise the page stays.
+    pub fn add(&mut self, bytes: &[u8])
+        ensures { self.new ≡ added N self.old bytes.now }
+    {
+        self.len = put_bytes(&mut self.room, self.len, bytes);
+    }
+
+    /// Adds a number's digits, as `add` does.
+    pub fn add_number(&mut self, n: u64)
+        ensures { self.new ≡ added N self.old (decimal n) }
+    {
+        self.len = put_number(&mut self.room, self.len, n);
+    }
+
+    /// Adds a number with its sign, as `add` does. One function of both would need a trait whose only say is which text a number has.
+    pub fn add_signed(&mut self, z: i32)
+        ensures { self.new ≡ added N self.old (signed z) }
+    {
+        self.len = put_signed(&mut self.room, self.len, z);
+    }
 }

@@ -1,6 +1,5 @@
 -- Batches of points: the keys of a batch, how one is gathered from the corners, and the answer as one batch after another.
-use Prim.Native.Nat.{ℕ, suc, ◌+◌, ◌-◌, ◌*◌, ◌≤◌, ◌<◌}
-use native.Mathlib.Numerals.{add-one}
+use Prim.Native.Nat.{ℕ, ◌+◌, ◌-◌, ◌*◌, ◌≤◌, ◌<◌}
 use native.Mathlib.Omega.{arith}
 use mathlib.Core.Path.{◌≡◌, refl, sym, ap, ◌∙◌}
 use mathlib.Core.Bool.{Bool, true, false, ◌&&◌, and-false}
@@ -8,14 +7,13 @@ use mathlib.Core.List.Memᴰ.{head}
 use mathlib.Core.List.Memᴰ.{tail}
 use mathlib.Core.List.{List, [], ◌∷◌, ◌++◌, Memᴰ as In, map-append}
 use lib.ListN.{length, take, drop, length-append, length-map}
-use lib.Seq.{drop-cons}
 use lib.IntN.{ℤ}
 use lib.Dec.{eqb, leb, ltb}
 use borrow.Author.Tests.{ltb-true, ltb-false, lt-ltb, le-ltb, le-leb, lt-leb}
 use Rattle.plane.specs.declared.Point.{Point}
 use Rattle.plane.specs.declared.Rect.{Rect}
 use Rattle.plane.specs.Lists.{odd, only, at_start}
-use Rattle.plane.specs.Words.{flat_points, corners_of, point_in_range, rising_after, rising, rect_at}
+use Rattle.plane.specs.Words.{flat_points, corners_of, point_in_range, rising_after, rising}
 use Rattle.plane.specs.Keys.{key_of}
 use Rattle.plane.proofs.Bools.{and-make, xor-false, false-xor}
 use Rattle.plane.proofs.Sums.{keep_append, in-only, length-only, only-all, only_none}
@@ -27,8 +25,8 @@ use Rattle.plane.proofs.AtStart.{start-part}
 use Rattle.rule.specs.Back.{corners, back_list}
 use Rattle.rule.specs.Rows.{AcceptedRects}
 use Rattle.rule.proofs.Backward.{back-rising, back-alike, back-accepted}
-use Rattle.outline.specs.declared.Batch.{Batch}
-use Rattle.outline.specs.Inner.{first_key, end_of_keys, keys_of, points_of_keys, climbs_after, climbs, OddOnes, most_keys, within, Gathers, batch_of, IsBatch}
+use Rattle.outline.specs.declared.TheConstants.{START, END}
+use Rattle.outline.specs.Inner.{keys_of, points_of_keys, climbs_after, climbs, OddOnes, within, Keys, Gathers, Takes, batch_of, IsBatch}
 use Rattle.outline.proofs.Keys.{key-within, odd-keys, keys-points}
 use Rattle.outline.proofs.Climbs.{climbs-unique}
 
@@ -69,24 +67,24 @@ batch-keys rs acc start end ks e h =
 -- ---- A batch of the corners, rectangle by rectangle
 
 -- at first nothing has come and nothing is kept
-pub gathers-none : (start end : ℕ) (all : List ℕ) → start < end → Gathers start end (record { count = 0; end = end }) all all []
+pub gathers-none : (start end : ℕ) (all : List ℕ) → start < end → Gathers start end end all all []
 gathers-none start end all h = record { beyond = h; not_beyond = omega arith; parity = λ f. rw odd-none-of (false-xor _) }
 
--- the keys of the corners from place i on: those of the rectangle there, and the others'
-pub keys-next : (rs : List Rect) (i : ℕ) → i < length rs → keys_of (corners (drop i rs)) ≡ keys_of (corners_of (rect_at rs i)) ++ keys_of (corners (drop (i + 1) rs))
+-- the keys of a rectangle's corners are taken, and those of the others are to come
+pub gathers-next : {start asked : ℕ} {b c : Keys} {all : List ℕ} {r : Rect} {rs rest : List Rect} → rest ≡ r ∷ rs → b.start ≡ start → Takes (keys_of (corners_of r)) b c → Gathers start asked b.end all (keys_of (corners rest)) b.keys → (c.start ≡ start) × Gathers start asked c.end all (keys_of (corners rs)) c.keys
 unfolding corners
-keys-next rs i h =
-    let e : drop i rs ≡ rect_at rs i ∷ drop (suc i) rs = drop-cons rs i _ h in
-    rw (add-one, e) (map-append key_of (corners_of (rect_at rs i)) (corners (drop (suc i) rs)))
+gathers-next {asked = asked} {all = all} {r} {rs} e s t g =
+    let next = ap (λ l. keys_of (corners l)) e ∙ map-append key_of (corners_of r) (corners rs) in
+    (t.start ∙ s, rw (← s) (t.takes asked all (keys_of (corners rs)) (rw s (rw next at g))))
 
 -- once all have come, the keys kept that stand an odd number of times are the batch
-pub gathered : {rs : List Rect} {start asked count : ℕ} {b : Batch} {kept ks : List ℕ} → AcceptedRects rs → Gathers start asked b (keys_of (corners rs)) [] kept → OddOnes kept ks → count ≤ most_keys → IsBatch (back_list rs) start asked (record { count = count; end = b.end }) ks
-gathered {rs} {start} {b = b} {ks = ks} acc g o few =
+pub gathered : {rs : List Rect} {start asked : ℕ} {kept : List ℕ} {b : Keys} → AcceptedRects rs → b.start ≡ start → Gathers start asked b.end (keys_of (corners rs)) [] kept → OddOnes kept b.keys → IsBatch (back_list rs) start asked b
+gathered {rs} {start} {b = b} acc s g o =
     record {
-      few = few;
+      from = s;
       beyond = g.beyond;
       not_beyond = g.not_beyond;
-      keys = batch-keys rs acc start b.end ks o.climbing (λ f. o.parity f ∙ (rw (odd-none-of, xor-false) at (g.parity f)));
+      keys = batch-keys rs acc start b.end b.keys o.climbing (λ f. o.parity f ∙ (rw (odd-none-of, xor-false) at (g.parity f)));
     }
 
 -- ---- Batches one after another
@@ -110,7 +108,7 @@ batch-none k ps = only_none _ ps (λ p m. go (key_of p) (ltb (key_of p) k) refl)
     go j false e = and-false (leb k j)
 
 -- from the first key to the end of all keys there is everything
-batch-all : (ps : List Point) → ((q : Point) → In q ps → point_in_range q ≡ true) → batch_of first_key end_of_keys ps ≡ ps
+batch-all : (ps : List Point) → ((q : Point) → In q ps → point_in_range q ≡ true) → batch_of START END ps ≡ ps
 unfolding within
 batch-all ps range = only-all _ ps (λ p m. let k = key-within p (range p m) in and-make _ _ (le-leb _ (key_of p) k.0) (lt-ltb (key_of p) _ k.1))
 
@@ -144,30 +142,30 @@ module _ (start mid end : ℕ) (first : start ≤ mid) (then : mid ≤ end) wher
 
 module _ {rs : List Rect} (acc : AcceptedRects rs) where
   -- up to the end of all keys there is the whole answer
-  pub answer-all : batch_of first_key end_of_keys (back_list rs) ≡ back_list rs
+  pub answer-all : batch_of START END (back_list rs) ≡ back_list rs
   answer-all = batch-all (back_list rs) (back-accepted rs acc).range
 
   -- the batch that follows those before the start
-  module _ {start asked : ℕ} {b : Batch} {ks : List ℕ} (from : first_key ≤ start) (t : IsBatch (back_list rs) start asked b ks) where
+  module _ {start asked : ℕ} {b : Keys} (from : START ≤ start) (t : IsBatch (back_list rs) start asked b) where
     -- with it there are all before its end
-    batch-joins : batch_of first_key start (back_list rs) ++ batch_of start b.end (back_list rs) ≡ batch_of first_key b.end (back_list rs)
-    batch-joins = batches-join first_key start b.end from (omega (arith, t.beyond)) (back_list rs) (back-rising rs) (back-accepted rs acc).range
+    batch-joins : batch_of START start (back_list rs) ++ batch_of start b.end (back_list rs) ≡ batch_of START b.end (back_list rs)
+    batch-joins = batches-join START start b.end from (omega (arith, t.beyond)) (back_list rs) (back-rising rs) (back-accepted rs acc).range
 
     -- so many are listed with it
-    pub batch-listed : {listed : ℕ} → length ks ≡ b.count → listed ≡ length (batch_of first_key start (back_list rs)) → listed + b.count ≡ length (batch_of first_key b.end (back_list rs))
-    batch-listed n e =
+    pub batch-listed : {listed : ℕ} → listed ≡ length (batch_of START start (back_list rs)) → listed + length b.keys ≡ length (batch_of START b.end (back_list rs))
+    batch-listed e =
         let batch : List Point = batch_of start b.end (back_list rs) in
-        omega (arith, length-append (batch_of first_key start (back_list rs)) batch, ap length batch-joins, ap length t.keys, length-map batch key_of)
+        omega (arith, length-append (batch_of START start (back_list rs)) batch, ap length batch-joins, ap length t.keys, length-map batch key_of)
 
     -- its points, written into the part after those before, are written after them
     pub batch-written :
-        (out : List ℤ) {listed : ℕ} {points part : List ℤ} → listed ≡ length (batch_of first_key start (back_list rs)) →
-        points ≡ at_start (flat_points (batch_of first_key start (back_list rs))) out →
+        (out : List ℤ) {listed : ℕ} {points part : List ℤ} → listed ≡ length (batch_of START start (back_list rs)) →
+        points ≡ at_start (flat_points (batch_of START start (back_list rs))) out →
         let n = length points - 2 * listed in
-        part ≡ at_start (flat_points (points_of_keys ks)) (take n (drop (2 * listed) points)) →
-        take (2 * listed) points ++ (part ++ drop n (drop (2 * listed) points)) ≡ at_start (flat_points (batch_of first_key b.end (back_list rs))) out
+        part ≡ at_start (flat_points (points_of_keys b.keys)) (take n (drop (2 * listed) points)) →
+        take (2 * listed) points ++ (part ++ drop n (drop (2 * listed) points)) ≡ at_start (flat_points (batch_of START b.end (back_list rs))) out
     batch-written out {listed} e w p =
-        let before : List Point = batch_of first_key start (back_list rs) in
+        let before : List Point = batch_of START start (back_list rs) in
         let batch : List Point = batch_of start b.end (back_list rs) in
         rw (p, t.keys, keys-points batch (batch-range acc start b.end), w, ← batch-joins, flat_append before batch)
         (start-part (flat_points before) (flat_points batch) out (2 * listed) (omega (arith, length-flat-points before)))

@@ -4,21 +4,20 @@ use Prim.Native.Nat.{ℕ, zero, suc, ◌<◌, ◌≤◌}
 use native.Mathlib.Omega.{arith}
 use mathlib.Core.Path.{◌≡◌, refl, sym, ap₂, ◌∙◌}
 use mathlib.Core.Bool.{Bool, true, ◌&&◌}
+use mathlib.Core.List.Memᴰ.{append_left}
+use mathlib.Core.List.Memᴰ.{append_right}
 use mathlib.Core.List.Memᴰ.{head}
 use mathlib.Core.List.Memᴰ.{tail}
-use mathlib.Core.List.{List, [], ◌∷◌, Memᴰ as In}
+use mathlib.Core.List.{List, [], ◌∷◌, ◌++◌, Memᴰ as In}
 use lib.ListN.{length, get_or, take}
 use lib.Dec.{eqb, ltb}
 use borrow.Author.Tests.{ltb-true, lt-ltb, le-ltb, eqb-true, eq-eqb, ne_eqb}
 use Rattle.plane.specs.Lists.{odd}
-use Rattle.plane.specs.Sorted.{sorted}
-use Rattle.plane.specs.Swaps.{off_pairs}
 use Rattle.plane.proofs.Bools.{clash, and_parts, and-make, xor-false, false-xor}
+use Rattle.plane.proofs.Sums.{all-last-added}
 use Rattle.plane.proofs.Parity.{odd-none-of, odd-cons, odd-rest, odd-none, odd-find}
 use Rattle.plane.proofs.Places.{in-at}
-use Rattle.plane.proofs.Sorted.{least_first, sorted-parity, sorted-twice}
-use Rattle.plane.proofs.Pairs.{off-odd, off-ascends}
-use Rattle.outline.specs.Inner.{climbs, climbs_after, OddOnes}
+use Rattle.outline.specs.Inner.{climbs, climbs_after}
 
 -- ---- The first number
 
@@ -56,13 +55,26 @@ unfolding climbs climbs_after
 climbs-front k [] e low = refl
 climbs-front k (j ∷ ks) e low = and-make (ltb k j) (climbs_after j ks) (low j (head refl)) e
 
--- so numbers in order without equal neighbours two by two are those that stand an odd number of times
-pub off-odd-ones : (l : List ℕ) → OddOnes l (off_pairs eqb (sorted l))
-unfolding climbs
-off-odd-ones l = record {
-  climbing = off-ascends eqb eqb-true least_first (λ k. eq-eqb k k refl) (λ ks. climbs ks ≡ true) refl climbs-front (sorted l) (sorted-twice least_first l);
-  parity = λ f. off-odd eqb eqb-true f (sorted l) ∙ sorted-parity least_first f l;
-}
+-- ---- A number put last
+
+-- numbers that climb do so before one above all of them
+pub climbs-push : (ks : List ℕ) (k : ℕ) → climbs ks ≡ true → ((j : ℕ) → In j ks → j < k) → climbs (ks ++ (k ∷ [])) ≡ true
+unfolding climbs climbs_after
+climbs-push [] k e high = climbs-front k [] refl (λ j m. elim m [ ])
+climbs-push (i ∷ ks) k e high = climbs-front i (ks ++ (k ∷ [])) (climbs-push ks k (climbs-rest i ks e) (λ j m. high j (tail m))) (λ j m. lt-ltb i j (all-last-added (λ b. i < b) ks k (λ b n. climbs-above i e n) (high i (head refl)) j m))
+
+-- before the last of numbers that climb they climb, and are below it
+pub climbs-before : (ks : List ℕ) (k : ℕ) → climbs (ks ++ (k ∷ [])) ≡ true → (climbs ks ≡ true) × ((j : ℕ) → In j ks → j < k)
+unfolding climbs climbs_after
+climbs-before [] k e = (refl, λ j m. elim m [ ])
+climbs-before (i ∷ ks) k e =
+    let h = climbs-before ks k (climbs-rest i (ks ++ (k ∷ [])) e) in
+    let first : i < k = climbs-above i e (append_right ks (head refl)) in
+    (climbs-front i ks h.0 (λ j m. lt-ltb i j (climbs-above i e (append_left (k ∷ []) m))), λ j. go first (h.1 j))
+  where
+    go : {j : ℕ} → i < k → (In j ks → j < k) → In j (i ∷ ks) → j < k
+    go l h (head d) = omega arith
+    go l h (tail m) = h m
 
 -- ---- A list cut
 

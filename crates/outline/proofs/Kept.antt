@@ -10,7 +10,7 @@ use Rattle.plane.specs.declared.Point.{Point}
 use Rattle.plane.specs.Lists.{any, odd, Starts}
 use Rattle.plane.specs.Words.{same, rising, holds, marks, flat_points, rects_of}
 use Rattle.plane.proofs.AtStart.{points-layout, first-numbers, past-numbers, first-items}
-use Rattle.entry.specs.declared.Counted.{Counted}
+use Rattle.entry.specs.Entry.{Counted}
 use Rattle.entry.specs.Checks.{verdict, accepted}
 use Rattle.rule.specs.Back.{odd_corner}
 use Rattle.rule.specs.BackwardCall.{backward_points, backward_answer, backward_checks, BackwardDone, points_listed}

@@ -12,12 +12,13 @@ use Rattle.plane.proofs.Bools.{and_parts}
 use Rattle.plane.proofs.Order.{range-up}
 use Rattle.plane.proofs.Maps.{map_back}
 use Rattle.plane.proofs.Keys.{range-fits, point-raised, key-point}
-use Rattle.outline.specs.Inner.{first_key, end_of_keys, keys_of, points_of_keys}
+use Rattle.outline.specs.declared.TheConstants.{START, END}
+use Rattle.outline.specs.Inner.{keys_of, points_of_keys}
 
 -- ---- One point
 
 -- a key of a point in range is from the first to below the end
-pub key-within : (p : Point) → point_in_range p ≡ true → (first_key ≤ key_of p) × (key_of p < end_of_keys)
+pub key-within : (p : Point) → point_in_range p ≡ true → (START ≤ key_of p) × (key_of p < END)
 unfolding key_of point_in_range
 key-within p e =
     let h = and_parts (in_range p.x) (in_range p.y) e in

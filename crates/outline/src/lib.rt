@@ -5,72 +5,64 @@
 // points are listed in batches: one pass over the rectangles gathers the lowest keys from a start on, as many as a small array holds.
 #![tactic(auto)]
 
-ghost use Rattle.std.specs.Prelude.{◌≡◌, cond, true, false, [], ◌∷◌, length, take, eqb, ◌+◌, ◌*◌, ◌/◌, ◌<◌, ◌≤◌};
+ghost use Rattle.std.specs.Prelude.{◌≡◌, true, false, [], ◌∷◌, length, take, ◌+◌, ◌*◌, ◌/◌, ◌<◌, ◌≤◌, MatchResult};
 ghost use Rattle.plane.specs.Lists.{at_start};
 ghost use Rattle.plane.specs.Words.{rect_in_range, flat, corners_of, rects_of, flat_points};
-ghost use Rattle.plane.specs.Swaps.{paired_at, off_pairs};
+ghost use Rattle.entry.specs.Checks.{refused, verdict};
+ghost use Rattle.entry.specs.Entry.{told};
+ghost use Rattle.entry.specs.Refusals.{number_of};
 ghost use Rattle.rule.specs.Back.{back_list};
-ghost use Rattle.rule.specs.BackwardCall.{backward_points, BackwardAccepted, BackwardDone};
+ghost use Rattle.rule.specs.BackwardCall.{backward_points, backward_checks, BackwardAccepted, BackwardDone};
 ghost use Rattle.rule.specs.Rows.{AcceptedRects};
-ghost use Rattle.outline.specs.Inner.{spans_range, rect_offends, first_offender, keys_of, points_of_keys, end_of_keys, corner_at, misses, OddOnes, most_keys, Takes, RoomMade, IsBatch};
+ghost use Rattle.outline.specs.declared.TheConstants.{MOST_KEYS};
+ghost use Rattle.outline.specs.Inner.{spans_range, keys_of, points_of_keys, misses, OddOnes, Keys, Takes, IsBatch};
 
-use entry::{Counted, FLAT, LENGTH, MANY, RANGE, ROOM, done, refusal};
+use entry::{Reason, Refusal};
 use plane::{
-    HIGH_END, LOW_END, MOST_RECTS, Point, RECT_SIZE, ROW_STEP, Rect, key_of, point_of, rect_at,
+    HIGH_END, LOW_END, MOST_RECTS, Point, RECT_SIZE, ROW_STEP, Rect, key_of, point_of, rects_in,
 };
+use std::marker::Model;
 
 // ---- Checks
-
-// The ends of the range, in 64 bits.
-const LOW: i64 = LOW_END as i64;
-
-const HIGH: i64 = HIGH_END as i64;
 
 fn is_flat(r: Rect) -> bool
     ensures { result ≡ flat r }
 {
-    (r.w < 1) | (r.h < 1)
+    r.w < 1 || r.h < 1
 }
 
 // Whether a coordinate and the far side are in range. The far side is made in 64 bits, so that it cannot wrap.
 fn spans_range(near: i32, by: i32) -> bool
     ensures { result ≡ spans_range near by }
 {
-    let low = near as i64;
-    let high = low + (by as i64);
-    ((LOW <= low) & (low <= HIGH)) & ((LOW <= high) & (high <= HIGH))
+    let range = i64::from(LOW_END)..=i64::from(HIGH_END);
+    let low = i64::from(near);
+    range.contains(&low) && range.contains(&(low + i64::from(by)))
 }
 
 fn is_in_range(r: Rect) -> bool
     ensures { result ≡ rect_in_range r }
 {
-    spans_range(r.x, r.w) & spans_range(r.y, r.h)
+    spans_range(r.x, r.w) && spans_range(r.y, r.h)
 }
 
-// Whether the rectangle offends against the check with this number: FLAT or RANGE.
-fn is_bad(number: u32, r: Rect) -> bool
-    ensures { result ≡ rect_offends number r }
+// What is refused of the rectangles, whatever the room.
+fn check_rects(rects: &[i32]) -> Result<(), Refusal>
+    ensures { MatchResult result (λ _. BackwardAccepted rects.now (2 * length (backward_points rects.now))) (λ e. (out : _) → verdict (backward_checks rects.now out) ≡ refused (number_of e.reason) e.place) }
 {
-    if number == FLAT {
-        is_flat(r)
-    } else {
-        !is_in_range(r)
+    if rects.len() % RECT_SIZE != 0 {
+        return Err(Reason::Length.at(0));
     }
-}
-
-// The place of the first rectangle that offends, and their number where none does.
-fn first_bad(rects: &[i32], number: u32) -> usize
-    ensures { result ≡ first_offender number (rects_of rects.now) }
-{
-    let n = rects.len() / RECT_SIZE;
-    let mut i = 0;
-    while i < n {
-        if is_bad(number, rect_at(rects, i)) {
-            return i;
-        }
-        i += 1;
+    if MOST_RECTS < rects.len() / RECT_SIZE {
+        return Err(Reason::Many.at(0));
     }
-    i
+    if let Some(i) = rects_in(rects).position(is_flat) {
+        return Err(Reason::Flat.at(i));
+    }
+    if let Some(i) = rects_in(rects).position(|r| !is_in_range(r)) {
+        return Err(Reason::Range.at(i));
+    }
+    Ok(())
 }
 
 // ---- Keys
@@ -81,248 +73,229 @@ const START: u64 = 1_147_483_648 * ROW_STEP;
 // Above every key of a point in range.
 const END: u64 = 3_147_483_649 * ROW_STEP;
 
-// A rectangle's corner, at its right or its left, at its top or its bottom.
-fn corner(r: Rect, right: bool, top: bool) -> Point
+// The keys of a rectangle's corners, a row after the other, the left one first.
+fn corner_keys(r: Rect) -> [u64; 4]
     requires { rect_in_range r ≡ true }
-    ensures { result ≡ corner_at r right top }
+    ensures { result ≡ keys_of (corners_of r) }
 {
-    let w = if right { r.w } else { 0 };
-    let h = if top { r.h } else { 0 };
-    Point {
-        x: r.x + w,
-        y: r.y + h,
-    }
+    let right = r.x + r.w;
+    let top = r.y + r.h;
+    [
+        key_of(Point { x: r.x, y: r.y }),
+        key_of(Point { x: right, y: r.y }),
+        key_of(Point { x: r.x, y: top }),
+        key_of(Point { x: right, y: top }),
+    ]
 }
 
 // ---- The keys that stand an odd number of times
 
-// Whether the key at place i and the next one are equal.
-fn is_paired(keys: &[u64], i: usize) -> bool
-    requires { i < length keys.now }
-    ensures { result ≡ paired_at eqb 0 keys.now i }
+// Leaves at the start the keys that stand an odd number of times, once each, in order. Gives how many they are. It reads and writes one slice, at two
+// places, as no iterator does.
+fn odd_ones(keys: &mut [u64]) -> usize
+    ensures upper_bound { result ≤ length keys.old }
+    ensures odd_ones { OddOnes keys.old (take result keys.new) }
 {
-    if i + 1 < keys.len() {
-        return keys[i] == keys[i + 1];
-    }
-    false
-}
-
-// Drops equal keys two by two, where they stand side by side. Gives how many are left at the start.
-fn cancel_pairs(keys: &mut [u64]) -> usize
-    ensures value { result ≡ length (off_pairs eqb keys.old) }
-    ensures keys_after { keys.new ≡ at_start (off_pairs eqb keys.old) keys.old }
-{
-    let n = keys.len();
+    sorting::sort(keys);
     let mut left = 0;
-    let mut i = 0;
-    while i < n {
-        if is_paired(keys, i) {
-            i += 2;
+    for i in 0..keys.len() {
+        let k = keys[i];
+        if 0 < left && keys[left - 1] == k {
+            left -= 1;
         } else {
-            let k = keys[i];
             keys[left] = k;
             left += 1;
-            i += 1;
         }
     }
     left
 }
 
-// Leaves, of the first n keys, those that stand an odd number of times, once each, in order. Gives how many they are.
-fn odd_ones(keys: &mut [u64], n: usize) -> usize
-    requires { n ≤ length keys.old }
-    ensures upper_bound { result ≤ n }
-    ensures odd_ones { OddOnes (take n keys.old) (take result keys.new) }
-{
-    let firsts = &mut keys[0..n];
-    sorting::sort(firsts);
-    cancel_pairs(firsts)
-}
-
 // ---- A batch
 
-// As many keys as an array holds, and as many as it keeps where it is full: 12 KiB of keys leave the rest of a stack of 16 for calls.
+// As many keys as a batch holds, and as many as it keeps where it is full: 12 KiB of keys leave the rest of a stack of 16 for calls.
 const MOST_KEYS: usize = 1536;
 
 const KEPT_KEYS: usize = MOST_KEYS / 2;
 
-// How many keys are in the array, and the key that they are below.
-#[derive(Clone, Copy)]
+// Keys from a start to below an end: the first `count` of an array.
+#[derive(Drop)]
 struct Batch {
-    count: usize,
+    start: u64,
     end: u64,
+    count: usize,
+    array: [u64; MOST_KEYS],
 }
 
-fn keys_below(end: u64, count: usize) -> Batch
-    ensures { result ≡ record { count = count; end = end } }
-{
-    Batch {
-        count: count,
-        end: end,
-    }
+impl Model for Batch {
+    ghost Value = { Keys };
+
+    ghost view = { λ b. record { start = b.start; end = b.end; keys = take b.count b.array } };
+
+    ghost invariant = { λ b. b.count ≤ MOST_KEYS };
 }
 
-// Makes room in a full array. If too many keys stand an odd number of times, only the lowest are kept, and end where the others begin.
-fn make_room(keys: &mut [u64], end: u64) -> Batch
-    requires { most_keys ≤ length keys.old }
-    ensures { RoomMade end keys.old result keys.new }
-{
-    let count = odd_ones(keys, MOST_KEYS);
-    if count <= KEPT_KEYS {
-        return keys_below(end, count);
+impl Batch {
+    // Keys yet to be gathered.
+    fn new() -> Batch {
+        Batch {
+            start: START,
+            end: END,
+            count: 0,
+            array: [0; MOST_KEYS],
+        }
     }
-    keys_below(keys[KEPT_KEYS], KEPT_KEYS)
-}
 
-// Whether all keys from left to right are out of a batch's reach.
-fn is_missed(start: u64, end: u64, left: u64, right: u64) -> bool
-    ensures { result ≡ misses start end left right }
-{
-    (right < start) | (end <= left)
-}
+    fn keys(&self) -> &[u64]
+        ensures { result.now ≡ self.now.keys }
+    {
+        &self.array[..self.count]
+    }
 
-// Takes a key, if it is in reach.
-fn offer(keys: &mut [u64], b: Batch, start: u64, k: u64) -> Batch
-    requires { (b.count < most_keys) × (most_keys ≤ length keys.old) }
-    ensures { Takes start (k ∷ []) b keys.old result keys.new }
-{
-    if is_missed(start, b.end, k, k) {
-        return b;
+    // Leaves the keys that stand an odd number of times, once each, in order.
+    fn keep_odd(&mut self)
+        ensures start { self.new.start ≡ self.old.start }
+        ensures end { self.new.end ≡ self.old.end }
+        ensures odd_ones { OddOnes self.old.keys self.new.keys }
+    {
+        self.count = odd_ones(&mut self.array[..self.count]);
     }
-    let count = b.count;
-    keys[count] = k;
-    if count + 1 < MOST_KEYS {
-        return keys_below(b.end, count + 1);
-    }
-    make_room(keys, b.end)
-}
 
-// Takes the keys of a rectangle's corners.
-fn offer_corners(keys: &mut [u64], b: Batch, start: u64, r: Rect) -> Batch
-    requires { (b.count < most_keys) × (most_keys ≤ length keys.old) × (flat r ≡ false) × (rect_in_range r ≡ true) }
-    ensures { Takes start (keys_of (corners_of r)) b keys.old result keys.new }
-{
-    let left = key_of(corner(r, false, false));
-    let right = key_of(corner(r, true, false));
-    let top_left = key_of(corner(r, false, true));
-    let top_right = key_of(corner(r, true, true));
-    if is_missed(start, b.end, left, right) & is_missed(start, b.end, top_left, top_right) {
-        return b;
+    // Makes room. If too many keys stand an odd number of times, only the lowest are kept, and the batch ends where the others begin.
+    fn make_room(&mut self)
+        ensures room { length self.new.keys < MOST_KEYS }
+        ensures takes { Takes [] self.old self.new }
+    {
+        self.keep_odd();
+        if KEPT_KEYS < self.count {
+            self.end = self.array[KEPT_KEYS];
+            self.count = KEPT_KEYS;
+        }
     }
-    let b1 = offer(keys, b, start, left);
-    let b2 = offer(keys, b1, start, right);
-    let b3 = offer(keys, b2, start, top_left);
-    offer(keys, b3, start, top_right)
-}
 
-// Leaves in the array the keys of the points from the start to below an end: the one given, or a lower one, where they are too many.
-fn gather(rects: &[i32], keys: &mut [u64], start: u64, end: u64) -> Batch
-    requires accepted_rects { AcceptedRects (rects_of rects.now) }
-    requires start_lt_end { (start < end) × (most_keys ≤ length keys.old) }
-    ensures { IsBatch (back_list (rects_of rects.now)) start end result (take result.count keys.new) }
-{
-    let n = rects.len() / RECT_SIZE;
-    let mut b = keys_below(end, 0);
-    let mut i = 0;
-    while i < n {
-        b = offer_corners(keys, b, start, rect_at(rects, i));
-        i += 1;
+    // Whether all keys from left to right are out of reach.
+    fn misses(&self, left: u64, right: u64) -> bool
+        ensures { result ≡ misses self.now.start self.now.end left right }
+    {
+        (right < self.start) | (self.end <= left)
     }
-    keys_below(b.end, odd_ones(keys, b.count))
+
+    // Takes a key, if it is in reach.
+    fn offer(&mut self, k: u64)
+        ensures { Takes (k ∷ []) self.old self.new }
+    {
+        if self.count == MOST_KEYS {
+            self.make_room();
+        }
+        if !self.misses(k, k) {
+            self.array[self.count] = k;
+            self.count += 1;
+        }
+    }
+
+    // Takes the keys of a rectangle's corners.
+    fn offer_corners(&mut self, r: Rect)
+        requires { (flat r ≡ false) × (rect_in_range r ≡ true) }
+        ensures { Takes (keys_of (corners_of r)) self.old self.new }
+    {
+        let [left, right, top_left, top_right] = corner_keys(r);
+        // Both tests are made before any branch: on rectangles at random a branch on each of them is a third slower.
+        if self.misses(left, right) & self.misses(top_left, top_right) {
+            return;
+        }
+        self.offer(left);
+        self.offer(right);
+        self.offer(top_left);
+        self.offer(top_right);
+    }
+
+    // Where the next batch may end: as far on as this one goes, if that has many keys, for then one pass seldom finds too many.
+    fn next_end(&self) -> u64
+        requires { (self.now.start < self.now.end) × (self.now.end ≤ END) }
+        ensures { (result ≤ END) × (self.now.end < END → self.now.end < result) }
+    {
+        let width = self.end - self.start;
+        if self.count < KEPT_KEYS / 2 || END - self.end < width {
+            return END;
+        }
+        self.end + width
+    }
+
+    // Gathers the keys of the points from the start to below an end: the one given, or a lower one, where they are too many.
+    fn gather(&mut self, rects: &[i32], start: u64, end: u64)
+        requires accepted_rects { AcceptedRects (rects_of rects.now) }
+        requires start_lt_end { start < end }
+        ensures { IsBatch (back_list (rects_of rects.now)) start end self.new }
+    {
+        self.start = start;
+        self.end = end;
+        self.count = 0;
+        for r in rects_in(rects) {
+            self.offer_corners(r);
+        }
+        self.keep_odd();
+    }
 }
 
 // ---- The points
 
-// Writes the points of the first n keys.
-fn put_points(keys: &[u64], n: usize, points: &mut [i32])
-    requires { (n ≤ length keys.now) × (2 * n ≤ length points.old) }
-    ensures { points.new ≡ at_start (flat_points (points_of_keys (take n keys.now))) points.old }
+// Writes the points of the keys.
+fn put_points(keys: &[u64], points: &mut [i32])
+    requires { 2 * length keys.now ≤ length points.old }
+    ensures { points.new ≡ at_start (flat_points (points_of_keys keys.now)) points.old }
 {
-    let mut i = 0;
-    while i < n {
-        let p = point_of(keys[i]);
-        let x = p.x;
-        let y = p.y;
-        points[2 * i] = x;
-        points[2 * i + 1] = y;
-        i += 1;
+    for (i, k) in keys.iter().enumerate() {
+        let p = point_of(*k);
+        points[2 * i] = p.x;
+        points[2 * i + 1] = p.y;
     }
 }
 
-// Where the next batch may end: as far on as this one went, if that had many keys, for then one pass seldom finds too many.
-fn next_end(start: u64, b: Batch) -> u64
-    requires { (start < b.end) × (b.end ≤ end_of_keys) }
-    ensures { (result ≤ end_of_keys) × (b.end < end_of_keys → b.end < result) }
-{
-    let width = b.end - start;
-    if (b.count < KEPT_KEYS / 2) | (END - b.end < width) {
-        return END;
-    }
-    b.end + width
-}
-
-// Lists the points batch by batch, and writes them if asked to. Gives how many they are.
-fn list_points(rects: &[i32], keys: &mut [u64], points: &mut [i32], writes: bool) -> usize
-    requires accepted_rects { AcceptedRects (rects_of rects.now) }
-    requires most_keys_in_bounds { most_keys ≤ length keys.old }
-    requires rects_in_bounds { writes ≡ true → 2 * length (back_list (rects_of rects.now)) ≤ length points.old }
+// Lists the points batch by batch, and writes those that have room. Gives how many they are.
+fn list_points(rects: &[i32], batch: &mut Batch, points: &mut [i32]) -> usize
+    requires { AcceptedRects (rects_of rects.now) }
     ensures value { result ≡ length (back_list (rects_of rects.now)) }
-    ensures points_after { points.new ≡ cond writes (at_start (flat_points (back_list (rects_of rects.now))) points.old) points.old }
+    ensures points_after { 2 * length (back_list (rects_of rects.now)) ≤ length points.old → points.new ≡ at_start (flat_points (back_list (rects_of rects.now))) points.old }
 {
     let mut start = START;
     let mut end = END;
     let mut listed = 0;
     while start < END {
-        let b = gather(rects, keys, start, end);
-        let count = b.count;
-        if writes {
-            let from = 2 * listed;
-            put_points(keys, count, &mut points[from..]);
+        batch.gather(rects, start, end);
+        let keys = batch.keys();
+        let from = 2 * listed;
+        listed += keys.len();
+        if 2 * listed <= points.len() {
+            put_points(keys, &mut points[from..]);
         }
-        listed += count;
-        end = next_end(start, b);
-        start = b.end;
+        end = batch.next_end();
+        start = batch.end;
     }
     listed
 }
 
 // Backward of rectangles that are accepted. The points are counted first and written only where all have room, but where there is room
 // for every corner.
-fn outlined(rects: &[i32], points: &mut [i32]) -> Counted
+fn outlined(rects: &[i32], points: &mut [i32]) -> Result<usize, Refusal>
     requires { BackwardAccepted rects.now (2 * length (backward_points rects.now)) }
-    ensures { BackwardDone rects.now points.old result points.new }
+    ensures { BackwardDone rects.now points.old (told result) points.new }
 {
-    let mut keys: [u64; MOST_KEYS] = [0; MOST_KEYS];
+    let mut batch = Batch::new();
     if points.len() / 8 < rects.len() / RECT_SIZE {
-        let needed = list_points(rects, &mut keys, points, false);
+        let needed = list_points(rects, &mut batch, &mut []);
         if points.len() / 2 < needed {
-            return refusal(ROOM, needed as u64);
+            return Err(Reason::Room.at(needed));
         }
     }
-    done(list_points(rects, &mut keys, points, true))
+    Ok(list_points(rects, &mut batch, points))
 }
 
 // ---- The public function
 
-// The points that are a corner of an odd number of the rectangles, in order, written to `points`, with their count; or a refusal, which
-// leaves `points` as it was. `rects` is only read.
-pub fn backward(rects: &[i32], points: &mut [i32]) -> Counted
-    ensures { BackwardDone rects.now points.old result points.new }
+/// The points that are a corner of an odd number of the rectangles, in order, written to `points`, with their count; or a refusal, which
+/// leaves `points` as it was. `rects` is only read.
+pub fn backward(rects: &[i32], points: &mut [i32]) -> Result<usize, Refusal>
+    ensures { BackwardDone rects.now points.old (told result) points.new }
 {
-    let n = rects.len() / RECT_SIZE;
-    if rects.len() % RECT_SIZE != 0 {
-        return refusal(LENGTH, 0);
-    }
-    if MOST_RECTS < n {
-        return refusal(MANY, 0);
-    }
-    let flat = first_bad(rects, FLAT);
-    if flat < n {
-        return refusal(FLAT, flat as u64);
-    }
-    let far = first_bad(rects, RANGE);
-    if far < n {
-        return refusal(RANGE, far as u64);
-    }
+    check_rects(rects)?;
     outlined(rects, points)
 }

@@ -9,11 +9,10 @@ use lib.ListN.{length, take, drop}
 use lib.IntN.{ℤ}
 use Rattle.plane.specs.Lists.{odd}
 use Rattle.plane.specs.Words.{holds, flat_points, rects_of, in_order, rect_size, most_rects}
-use Rattle.entry.specs.declared.Counted.{Counted}
-use Rattle.rule.specs.declared.ForwardAnswer.{ForwardAnswer}
+use Rattle.entry.specs.Entry.{Counted}
 use Rattle.rule.specs.Back.{back_list}
 use Rattle.rule.specs.BackwardCall.{BackwardDone}
-use Rattle.rule.specs.ForwardCall.{ForwardDone, points_remaining, forward_list}
+use Rattle.rule.specs.ForwardCall.{ForwardDone, points_remaining, forward_list, ForwardAnswer}
 use Rattle.rule.proofs.Demands.{forward-then-backward, backward-then-forward, two-lists}
 use Rattle.outline.proofs.Kept as back
 use Rattle.panbuckle.specs.Calls.{BackThenForward, list_after}

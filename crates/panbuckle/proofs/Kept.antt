@@ -17,11 +17,9 @@ use Rattle.plane.proofs.Arrays.{length-points}
 use Rattle.plane.proofs.Remaining.{remaining-edge}
 use Rattle.plane.proofs.AtStart.{rects-layout, first-numbers, past-numbers, first-items}
 use Rattle.entry.specs.Checks.{accepted}
-use Rattle.rule.specs.declared.ForwardAnswer.{ForwardAnswer}
-use Rattle.rule.specs.declared.StepAnswer.TheVariants.{Rectangle}
 use Rattle.rule.specs.Rule.{step, row_count}
-use Rattle.rule.specs.ForwardCall.{forward_says, forward_answer, ForwardDone, list_of, points_remaining, forward_list, forward_sums, sums_told}
-use Rattle.rule.specs.StepCall.{step_number, StepDone}
+use Rattle.rule.specs.ForwardCall.{forward_says, forward_answer, ForwardDone, list_of, points_remaining, forward_list, forward_sums, sums_told, ForwardAnswer}
+use Rattle.rule.specs.StepCall.{step_number, StepDone, Rectangle}
 use Rattle.rule.specs.Rows.{Accepted, AcceptedRects}
 use Rattle.rule.proofs.ForwardCall.{forward-leaves}
 use Rattle.rule.proofs.StepCall.{step-accepts, step-accepted, taken_step}

@@ -1,3 +1,4 @@
+pub mod Firsts
 pub mod Scan
 pub mod Toggling
 pub mod Taking

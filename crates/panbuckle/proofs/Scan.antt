@@ -1,14 +1,13 @@
 -- A loop that goes through the points of an array: what is left of them at each place.
-use Prim.Native.Nat.{ℕ, ◌<◌, ◌≤◌, ◌+◌, ◌*◌}
+use Prim.Native.Nat.{ℕ, ◌<◌, ◌≤◌, ◌*◌}
 use native.Mathlib.Omega.{arith}
 use mathlib.Core.Path.{◌≡◌}
-use mathlib.Core.List.{List, [], ◌∷◌, ◌++◌}
-use lib.ListN.{length, take, drop}
+use mathlib.Core.List.{List}
+use lib.ListN.{length, take}
 use lib.Seq.{get_or-take, length-take-le, take-take}
 use lib.IntN.{ℤ}
 use Rattle.plane.specs.Words.{points_of, origin, point_at}
-use Rattle.plane.proofs.Arrays.{length-points, points-next}
-use Rattle.plane.proofs.Places.{stretch-next, stretch-none}
+use Rattle.plane.proofs.Arrays.{length-points}
 use Rattle.panbuckle.specs.Inner.{held}
 
 module _ (n : ℕ) (a : List ℤ) (fits : 2 * n ≤ length a) where
@@ -19,18 +18,6 @@ module _ (n : ℕ) (a : List ℤ) (fits : 2 * n ≤ length a) where
   -- the point at a place is the array's
   pub held_at : (i : ℕ) → i < n → point_at (held n a) i ≡ point_at (points_of a) i
   held_at i l = get_or-take n (points_of a) i origin l
-
-  -- at place i: the point there, and what is left after it
-  pub next : (i : ℕ) → i < n → drop i (held n a) ≡ point_at (points_of a) i ∷ drop (i + 1) (held n a)
-  next i l = stretch-next (points_of a) i n origin l (omega (arith, length-points a))
-
-  -- after the last, nothing
-  pub ended : (i : ℕ) → n ≤ i → drop i (held n a) ≡ []
-  ended i l = stretch-none (points_of a) i n l
-
-  -- the points before the place after i
-  pub held_next : (i : ℕ) → i < n → held (i + 1) a ≡ held i a ++ (point_at (points_of a) i ∷ [])
-  held_next i l = points-next a i (omega arith)
 
 -- the points before place i
 pub fewer : (n : ℕ) (a : List ℤ) (i : ℕ) → i ≤ n → take i (held n a) ≡ held i a

@@ -12,13 +12,10 @@ use Rattle.plane.specs.declared.Rect.{Rect}
 use Rattle.plane.specs.Lists.{sum}
 use Rattle.plane.specs.Words.{points_of, area_of, flat_rects}
 use Rattle.plane.specs.Edge.{edge_length}
-use Rattle.rule.specs.declared.ForwardAnswer.{ForwardAnswer}
-use Rattle.rule.specs.declared.StepAnswer.{StepAnswer}
-use Rattle.rule.specs.declared.StepAnswer.TheVariants.{Rectangle, Refused}
 use Rattle.rule.specs.Rule.{Taken, step, run, left_after, enough, rule_list}
 use Rattle.rule.specs.Working.{work_of}
-use Rattle.rule.specs.ForwardCall.{forward_answer, forward_out, forward_work, ForwardDone, points_remaining, forward_list}
-use Rattle.rule.specs.StepCall.{StepDone}
+use Rattle.rule.specs.ForwardCall.{forward_answer, forward_out, forward_work, ForwardDone, points_remaining, forward_list, ForwardAnswer}
+use Rattle.rule.specs.StepCall.{StepDone, StepAnswer, Rectangle, Refused}
 use Rattle.rule.specs.Rows.{Accepted}
 use Rattle.rule.proofs.ForwardCall.{forward-accepts, forward-needs, forward-fits, forward-drained-work}
 use Rattle.rule.proofs.Steps.{accepted-step}

@@ -1,14 +1,9 @@
 -- The search for the stop row: the highest row of points, the rows that a pass over the points leaves in a table, each by its point
 -- in K's column, and when the lowest of them is M.
-use Prim.Native.Nat.{ℕ, ◌<◌, ◌≤◌, ◌+◌, ◌*◌}
+use Prim.Native.Nat.{◌<◌, ◌≤◌, ◌+◌}
 use native.Mathlib.Omega.{arith}
 use mathlib.Core.Path.{◌≡◌, refl, sym, ap, ◌∙◌, subst}
-use mathlib.Core.Logic.{⊎_elim}
-use mathlib.Core.Bool.{Bool, true, false, not, cond, ◌&&◌, ◌||◌, xor, and_assoc, and-false}
-use mathlib.Core.List.Memᴰ
-use mathlib.Core.List.Memᴰ.{append_cases}
-use mathlib.Core.List.Memᴰ.{eq_of_singleton as only_one}
-use mathlib.Core.List.Memᴰ.{head}
+use mathlib.Core.Bool.{Bool, true, false, not, ◌&&◌, ◌||◌, xor, and_assoc, and-false}
 use mathlib.Core.List.Memᴰ.{not-nil as none_in}
 use mathlib.Core.List.{List, [], ◌∷◌, ◌++◌, Memᴰ as In}
 use mathlib.Core.Option.{get_or}
@@ -18,7 +13,7 @@ use lib.Signed.{le_z, lt_z}
 use borrow.Author.Tests.{not-true}
 use Rattle.plane.specs.declared.Point.{Point}
 use Rattle.plane.specs.Lists.{any, count, odd}
-use Rattle.plane.specs.Words.{origin, points_of, eq_z, same, on_row, point_at}
+use Rattle.plane.specs.Words.{origin, eq_z, same, on_row}
 use Rattle.plane.proofs.Order.{order, eq_z-refl, same-ℤ}
 use Rattle.plane.proofs.Bools.{by, by-no, iff, clash, and_parts, and-make, or_right, xor_comm, xor-false, false-xor}
 use Rattle.plane.proofs.Sums.{any-find, any-in, count-in}
@@ -29,23 +24,10 @@ use Rattle.rule.specs.Rule.{first_in, toggle, over, left_of, stops, stopper, pic
 use Rattle.rule.specs.Rows.{Accepted}
 use Rattle.rule.proofs.Toggle.{toggle-length, odd-toggle, once-toggle}
 use Rattle.rule.proofs.Picks.{least, after-k, higher, clear, first_found, above-in-column, l-right_of, over-make}
-use Rattle.panbuckle.specs.Inner.{held, Begun, cross, over_width, beside, IsHighest, Toggled, whole, given-up, OddBeside, Between}
-use Rattle.panbuckle.proofs.Scan.{held-length, held_next}
+use Rattle.panbuckle.specs.Inner.{Begun, cross, over_width, beside, IsHighest, Toggled, whole, given-up, OddBeside, Between}
 use Rattle.panbuckle.proofs.Taking.{begun-picked}
 
 -- ---- The highest row
-
--- of one point it is that point's
-pub highest-one : (q : Point) → IsHighest ([] ++ (q ∷ [])) q
-highest-one q = record { within = head refl; none_above = λ p n. rw (only_one n) (omega order) }
-
--- of one point more it is that point's, where that is above
-pub highest-more : {ps : List Point} {r : Point} → IsHighest ps r → (q : Point) → IsHighest (ps ++ (q ∷ [])) (cond (lt_z r.y q.y) q r)
-highest-more {ps} {r} t q = go (lt_z r.y q.y) refl
-  where
-    go : (b : Bool) → lt_z r.y q.y ≡ b → IsHighest (ps ++ (q ∷ [])) (cond b q r)
-    go true e = record { within = Memᴰ.append_right ps (head refl); none_above = λ p n. ⊎_elim (λ i. omega (order, t.none_above p i)) (λ (i : In p (q ∷ [])). rw (only_one i) (omega order)) (append_cases ps n) }
-    go false e = record { within = Memᴰ.append_left (q ∷ []) t.within; none_above = λ p n. ⊎_elim (t.none_above p) (λ (i : In p (q ∷ [])). rw (only_one i) e) (append_cases ps n) }
 
 -- without a point on it there is one point less
 pub without-highest : {ps : List Point} {h : Point} → IsHighest ps h → length (toggle ps h) + 1 ≡ length ps
@@ -146,25 +128,21 @@ lowered-above {h = h} {rows = rows} o t many =
     let d = b.2 in
     omega order
 
--- ---- A pass over the points: the rows of the first i, and the point p at place i
+-- ---- A pass over the points: the rows of those passed, and the next point p
 
-module _ (n : ℕ) (work : List ℤ) (fits : 2 * n ≤ length work) {k low end p : Point} (i : ℕ) {rows : List Point} (o : OddBeside k low end (held i work) rows) (h : i < n) (at : p ≡ point_at (points_of work) i) where
-  -- with p, the first i are the first i + 1
-  so_far : held (i + 1) work ≡ held i work ++ (p ∷ [])
-  so_far = rw at (held_next n work fits i h)
-
+module _ {k low end : Point} (p : Point) {ps rows : List Point} (o : OddBeside k low end ps rows) where
   -- p is not beside k: the rows stay
-  pub passed_apart : beside k low end p ≡ false → OddBeside k low end (held (i + 1) work) rows
-  passed_apart b = rw so_far (more-apart o p b)
+  pub passed_apart : beside k low end p ≡ false → OddBeside k low end (ps ++ (p ∷ [])) rows
+  passed_apart b = more-apart o p b
 
   -- p is beside k: its row is toggled, and the end stays above low and not above m
-  pub passed-beside : {m e : Point} {rs : List Point} → Between low m end → beside k low end p ≡ true → Toggled (cross k p) end rows e rs → Between low m e × OddBeside k low e (held (i + 1) work) rs
-  passed-beside c b whole = (c, rw so_far (more-beside o p b))
+  pub passed-beside : {m e : Point} {rs : List Point} → Between low m end → beside k low end p ≡ true → Toggled (cross k p) end rows e rs → Between low m e × OddBeside k low e (ps ++ (p ∷ [])) rs
+  passed-beside c b whole = (c, more-beside o p b)
   passed-beside {m} {e} c b (given-up many t) =
       let q = more-beside o p b in
       let high = (row-between q t.within).2 in
       let d = c.not-above in
-      (record { above = lowered-above q t many; not-above = omega order }, rw so_far (lowered q t))
+      (record { above = lowered-above q t many; not-above = omega order }, lowered q t)
 
 -- ---- M
 
@@ -213,10 +191,10 @@ pub record EvenBelow (k low : Point) (ps : List Point) : Type 0 where
   pub even : (q : Point) → lt_z q.y low.y ≡ true → odd (left_of k.x q.y) ps ≡ false
 
 -- K's row is the lowest, so no row below it has
-pub even-first : {work : List ℤ} {n : ℕ} {k l : Point} → Begun work n k l → EvenBelow k k (held n work)
+pub even-first : {ps : List Point} {k l : Point} → Begun ps k l → EvenBelow k k ps
 unfolding left_of on_row
-even-first {work} {n} {k} g = record {
-  even = λ q low. odd-none (left_of k.x q.y) (held n work) (λ p i. by-no (left_of k.x q.y p) (λ e.
+even-first {ps} {k} g = record {
+  even = λ q low. odd-none (left_of k.x q.y) ps (λ p i. by-no (left_of k.x q.y p) (λ e.
       let d = (and_parts (eq_z p.y q.y) (lt_z p.x k.x) e).0 in
       let h = after-row (after-k (begun-picked g) p i) in
       omega order));
@@ -273,14 +251,14 @@ module _ {ps : List Point} {k l m p : Point} {z : ℤ} (c : Picked ps k l z) (w 
       let d : le_z z p.y ≡ true = by (le_z z p.y) (λ g. clash stop (clear c p n high (omega order))) in
       ap (λ y. record { x = k.x; y = y }) (same-ℤ p.y z (omega order))
 
--- with K and L, and the first point m over the width, of the points that a working array holds
-module _ {work : List ℤ} {n : ℕ} {k l m : Point} (g : Begun work n k l) (at : m ≡ get_or (first_in (over_width k l) (held n work)) k) where
+-- with K and L, and the first point m over the width
+module _ {ps : List Point} {k l m : Point} (g : Begun ps k l) (at : m ≡ get_or (first_in (over_width k l) ps) k) where
   -- m is over the width
-  first-over : IsFirst (over_width k l) (held n work) m
-  first-over = rw at (over_first g.ready.points (begun-picked g))
+  first-over : IsFirst (over_width k l) ps m
+  first-over = rw at (over_first g.accepted (begun-picked g))
 
   -- with no odd row below m's, that is row M
-  pub over-stops : {low : Point} → EvenBelow k low (held n work) → lt_z low.y m.y ≡ false → cross k m ≡ record { x = k.x; y = pick_m k l (held n work) }
+  pub over-stops : {low : Point} → EvenBelow k low ps → lt_z low.y m.y ≡ false → cross k m ≡ record { x = k.x; y = pick_m k l ps }
   unfolding over_width stops on_row
   over-stops {low} b d =
       let w = first-over in
@@ -289,20 +267,16 @@ module _ {work : List ℤ} {n : ℕ} {k l m : Point} (g : Begun work n k l) (at 
       let inside = any-in (over k.x l.x m.y) w.within (over-make k.x l.x m.y m (eq_z-refl m.y) e.0 e.1) in
       is_m (begun-picked g) w w.within a.0 (rw inside) (omega order) (record { even = λ q h. b.even q (omega order) })
 
-  -- the lowest of the rows that a pass leaves in a table, one or more, is row M
-  pub odd-stops :
-      {low end r : Point} (c : ℕ) (table : List ℤ) → EvenBelow k low (held n work) → OddBeside k low end (held n work) (held c table) →
-      Between low m end → 2 * c ≤ length table → 0 < c → r ≡ get_or (first_in (λ p. true) (held c table)) k → r ≡ record { x = k.x; y = pick_m k l (held n work) }
+  -- the lowest of the rows that a pass leaves in a table is row M
+  pub odd-stops : {low end r : Point} {rows : List Point} → EvenBelow k low ps → OddBeside k low end ps rows → Between low m end → IsFirst (λ p. true) rows r → r ≡ record { x = k.x; y = pick_m k l ps }
   unfolding stops
-  odd-stops {low} {end} {r} c table b o t fits some e =
-      let rows : List Point = held c table in
+  odd-stops {low} {end} {r} {rows} b o t f =
       let h = begun-picked g in
-      let f : IsFirst (λ p. true) rows r = rw e (first_found (λ p. true) rows k (in-at rows 0 origin (omega (arith, held-length c table fits))) refl) in
       let q = of-beside o f.within in
       let p = q.0 in
       let d = beside-parts k low end p q.2 in
       let below_end = d.2 in
       let end-below-m = t.not-above in
-      let odd-row : odd (left_of k.x p.y) (held n work) ≡ true = sym (rows_left o p d.1 d.2) ∙ rw (← q.3) (odd-one (same r) f.within (same_refl r) (o.once r)) in
+      let odd-row : odd (left_of k.x p.y) ps ≡ true = sym (rows_left o p d.1 d.2) ∙ rw (← q.3) (odd-one (same r) f.within (same_refl r) (o.once r)) in
       let lowest : (s : Point) → In s rows → le_z p.y s.y ≡ true = λ s i. rw q.3 at (after-row (least f s i refl)) in
-      q.3 ∙ is_m h first-over q.1 (left-above h q.1 d.0) (or_right (any (over k.x l.x p.y) (held n work)) _ odd-row) (omega order) (even-to b o (omega order) lowest)
+      q.3 ∙ is_m h first-over q.1 (left-above h q.1 d.0) (or_right (any (over k.x l.x p.y) ps) _ odd-row) (omega order) (even-to b o (omega order) lowest)

@@ -8,15 +8,19 @@ use mathlib.Core.Option.{get_or}
 use lib.ListN.{length, take, set, length-set, length-append, length-take, replicate, drop}
 use lib.IntN.{ℤ, pos}
 use lib.Dec.{ltb}
+use Rattle.std.specs.Prelude.{Option as Found, Some, None, position}
+use Rattle.std.specs.List.{position_or_len}
+use mathlib.Core.Bool.{Bool, true, false, cond}
 use borrow.Author.Tests.{lt-ltb, le-ltb, ltb-true, ltb-false}
 use Rattle.plane.specs.declared.Point.{Point}
-use Rattle.plane.specs.Words.{origin, points_of, flat_points, point_at}
+use Rattle.plane.specs.Words.{origin, points_of, flat_points, point_at, same}
 use Rattle.plane.proofs.Bools.{cond-case}
 use Rattle.plane.proofs.Arrays.{twice-suc, length-flat-points}
 use Rattle.plane.proofs.Places.{set_last}
 use Rattle.rule.specs.Rule.{place_of, remove, add, toggle}
 use Rattle.rule.specs.Working.{work_of, padded}
-use Rattle.rule.proofs.Toggle.{toggle-at, toggle-length}
+use Rattle.rule.proofs.Toggle.{toggle-at, toggle-length, place-first}
+use Rattle.entry.proofs.Search.{position-first}
 use Rattle.rule.proofs.Working.{work-length, work-points, work-held, work-origin, work-again}
 use Rattle.panbuckle.specs.Inner.{held, put, most}
 use Rattle.panbuckle.proofs.Scan.{held-length, held_at, fewer}
@@ -38,6 +42,27 @@ put-work n ps work i p h =
     let rest : List ℤ = drop (length (flat_points ps ++ zeros)) work in
     let same_length : length (flat_points (set ps i p) ++ zeros) ≡ length (flat_points ps ++ zeros) = omega (arith, length-append (flat_points ps) zeros, length-append (flat_points (set ps i p)) zeros, length-flat-points ps, length-flat-points (set ps i p), length-set ps i p) in
     rw (length-set ps i p, same_length, append_assoc (flat_points ps) zeros rest, append_assoc (flat_points (set ps i p)) zeros rest) (put-flat ps (zeros ++ rest) i p h)
+
+-- ---- A point's place
+
+-- where the library finds the first item that passes, and where it finds none
+pub at-place : {A : Type 0} (f : A → Bool) (l : List A) {r : Found ℕ} {i : ℕ} → r ≡ position f l → r ≡ Some i → (i ≡ position_or_len f l) × (i < length l)
+at-place f l {i = i} e d = go (ltb (position_or_len f l) (length l)) refl (sym d ∙ e)
+  where
+    go : (b : Bool) → ltb (position_or_len f l) (length l) ≡ b → Some i ≡ cond b (Some (position_or_len f l)) None → (i ≡ position_or_len f l) × (i < length l)
+    go true h g = let same : i ≡ position_or_len f l = cc in (same, omega (arith, ltb-true _ _ h))
+    go false h g = cc
+
+pub at_none : {A : Type 0} (f : A → Bool) (l : List A) {r : Found ℕ} → r ≡ position f l → r ≡ None → length l ≤ position_or_len f l
+at_none f l e d = go (ltb (position_or_len f l) (length l)) refl (sym d ∙ e)
+  where
+    go : (b : Bool) → ltb (position_or_len f l) (length l) ≡ b → None ≡ cond b (Some (position_or_len f l)) None → length l ≤ position_or_len f l
+    go true h g = cc
+    go false h g = ltb-false _ _ h
+
+-- the rule's place of a point is the library's
+pub place-is : (p : Point) (ps : List Point) → position_or_len (same p) ps ≡ get_or (place_of p ps) (length ps)
+place-is p ps = position-first (same p) ps origin (λ i. same p (point_at ps i)) (λ i h. refl) ∙ sym (place-first p ps)
 
 -- ---- A point toggled
 

@@ -2,13 +2,11 @@
 use Rattle.std.specs.Prelude.{ℕ, ◌*◌, ◌/◌, ◌≤◌, ◌≡◌, List, [], ◌∷◌, length, take, ℤ}
 use Rattle.plane.specs.declared.Rect.{Rect}
 use Rattle.plane.specs.Words.{most_points, rect_size}
-use Rattle.entry.specs.declared.Counted.{Counted}
-use Rattle.rule.specs.declared.ForwardAnswer.{ForwardAnswer}
-use Rattle.rule.specs.declared.StepAnswer.TheVariants.{Rectangle, Refused}
+use Rattle.entry.specs.Entry.{Counted}
 use Rattle.rule.specs.Working.{work_of}
-use Rattle.rule.specs.ForwardCall.{points_remaining, forward_list, ForwardDone, list_of}
+use Rattle.rule.specs.ForwardCall.{points_remaining, forward_list, ForwardDone, list_of, ForwardAnswer}
 use Rattle.rule.specs.BackwardCall.{BackwardDone}
-use Rattle.rule.specs.StepCall.{StepDone}
+use Rattle.rule.specs.StepCall.{StepDone, Rectangle, Refused}
 
 -- ---- Calls of step, one after another
 

@@ -1,14 +1,12 @@
 -- What the private functions speak of. No caller needs these definitions: the promises are in the crate `rule`.
-use Rattle.std.specs.Prelude.{ℕ, ◌+◌, ◌*◌, ◌≤◌, ◌≡◌, Bool, true, false, cond, ◌&&◌, length, take, set, ℤ, ltb}
+use Rattle.std.specs.Prelude.{ℕ, ◌+◌, ◌*◌, ◌<◌, ◌≤◌, ◌≡◌, Bool, true, false, cond, ◌&&◌, length, take, set, ℤ, ltb}
 use mathlib.Core.List.{List, Memᴰ as In}
 use Rattle.std.specs.Int.Signed.{le_z, lt_z}
 use Rattle.plane.specs.declared.Point.{Point}
 use Rattle.plane.specs.Lists.{count, odd}
 use Rattle.plane.specs.Words.{same, points_of}
-use Rattle.rule.specs.Rule.{pick_k, pick_l, right_of, toggle}
-use Rattle.rule.specs.StepCall.{StepAccepted}
-use Rattle.panbuckle.specs.declared.Seek.{Seek}
-use Rattle.panbuckle.specs.declared.Seek.TheVariants.{Any, RightOf, Over}
+use Rattle.rule.specs.Rule.{pick_k, pick_l, toggle}
+use Rattle.rule.specs.Rows.{Accepted}
 
 -- ---- Arrays
 
@@ -34,19 +32,19 @@ cross p q = record { x = p.x; y = q.y }
 unfoldable pub over_width : (k l : Point) → Point → Bool
 over_width k l p = lt_z k.y p.y && (le_z k.x p.x && lt_z p.x l.x)
 
--- what a scan looks for
-abbrev pub sought : Seek → Point → Bool
-sought Any p = true
-sought (RightOf k) p = right_of k p
-sought (Over k l) p = over_width k l p
-
--- k and l are K and L of the points that a working array holds, one or more
-pub record Begun (work : List ℤ) (n : ℕ) (k l : Point) : Type 0 where
-  pub ready : StepAccepted work n
-  pub is-k : k ≡ pick_k (held n work)
-  pub is-l : l ≡ pick_l k (held n work)
+-- k and l are K and L of points that are accepted, one or more
+pub record Begun (ps : List Point) (k l : Point) : Type 0 where
+  pub accepted : Accepted ps
+  pub some_left : 0 < length ps
+  pub is-k : k ≡ pick_k ps
+  pub is-l : l ≡ pick_l k ps
 
 -- ---- The stop row
+
+-- what a table has: rows, each by a point, below an end
+pub record Rows : Type 0 where
+  pub end : Point
+  pub rows : List Point
 
 -- left of k, from low's row to below end's
 unfoldable pub beside : (k low end : Point) → Point → Bool

@@ -12,12 +12,10 @@ use Rattle.plane.specs.declared.Point.{Point}
 use Rattle.plane.specs.Lists.{bit, any, count}
 use Rattle.plane.specs.Words.{points_of, rect_size, holds}
 use Rattle.plane.proofs.Arrays.{length-flat-points, points-flat}
-use Rattle.entry.specs.declared.Counted.{Counted}
 use Rattle.entry.specs.Checks.{accepted, refused}
-use Rattle.entry.specs.Entry.{number_in}
+use Rattle.entry.specs.Entry.{number_in, Counted}
 use Rattle.entry.proofs.Verdicts.{verdict-none, verdict-whole}
-use Rattle.rule.specs.declared.ForwardAnswer.{ForwardAnswer}
-use Rattle.rule.specs.ForwardCall.{forward_answer, forward_list, ForwardDone, list_of}
+use Rattle.rule.specs.ForwardCall.{forward_answer, forward_list, ForwardDone, list_of, ForwardAnswer}
 use Rattle.boundaries.specs.Boundary.{inside, handed_on}
 use Rattle.boundaries.proofs.Forward.{boundaries-asked, boundaries-covered}
 use Rattle.gdsii.specs.Walk.{read_all}

@@ -1,14 +1,10 @@
 -- What the C face promises, for every input: the number that a call returns, and what each lent array holds afterwards.
 use Rattle.std.specs.Prelude.{ℕ, ◌≡◌, List, [], ◌∷◌, get_or, ℤ}
-use Rattle.entry.specs.declared.Counted.{Counted}
 use Rattle.entry.specs.Checks.{accepted, refused}
-use Rattle.entry.specs.Entry.{counted}
-use Rattle.rule.specs.declared.ForwardAnswer.{ForwardAnswer}
-use Rattle.rule.specs.declared.StepAnswer.{StepAnswer}
-use Rattle.rule.specs.declared.StepAnswer.TheVariants.{Rectangle, Refused}
-use Rattle.rule.specs.ForwardCall.{ForwardDone}
+use Rattle.entry.specs.Entry.{counted, Counted}
+use Rattle.rule.specs.ForwardCall.{ForwardDone, ForwardAnswer}
 use Rattle.rule.specs.BackwardCall.{BackwardDone}
-use Rattle.rule.specs.StepCall.{StepDone}
+use Rattle.rule.specs.StepCall.{StepDone, StepAnswer, Rectangle, Refused}
 use Rattle.gdsii.specs.Call.{ReadDone}
 
 -- ---- The numbers of a result

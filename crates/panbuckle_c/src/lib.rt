@@ -3,41 +3,65 @@
 #![tactic(auto)]
 
 ghost use Rattle.std.specs.Prelude.{◌≡◌, [], ◌∷◌};
-ghost use Rattle.panbuckle_c.specs.Face.{forward_numbers, counted_numbers, ForwardCalled, BackwardCalled, StepCalled, ReadCalled, version};
+ghost use Rattle.entry.specs.Entry.{told};
+ghost use Rattle.rule.specs.ForwardCall.{forward_told};
+ghost use Rattle.panbuckle_c.specs.Face.{Told, forward_numbers, counted_numbers, ForwardCalled, BackwardCalled, StepCalled, ReadCalled, version};
 
-use entry::{Counted, DONE, done, refusal};
-use panbuckle::{ForwardAnswer, Rect, StepAnswer};
+use entry::Refusal;
+use plane::Rect;
+use rule::Sums;
 
-// The face's version, which rises by one when a program that was built with an older header would go wrong.
+/// The face's version, which rises by one when a program that was built with an older header would go wrong.
 pub const VERSION: u32 = 3;
 
-// ---- The numbers of an answer
+// The answer's number for C where nothing is refused.
+const DONE: u32 = 0;
 
-fn put_forward(res: &mut [u64; 5], r: ForwardAnswer)
-    ensures { res.new ≡ forward_numbers r }
+// ---- The numbers of an answer, by a function for each size of array that the C interface has
+
+// Those of one that counts. Gives the first.
+fn tell_count(res: &mut [u64; 3], answer: Result<usize, Refusal>) -> u32
+    ensures { Told (counted_numbers (told answer)) result res.new }
 {
-    *res = [r.answer as u64, r.place, r.count as u64, r.area, r.edge];
+    match answer {
+        Ok(count) => {
+            *res = [u64::from(DONE), 0, count as u64];
+            DONE
+        }
+        Err(Refusal { reason, place }) => {
+            let number = u32::from(reason);
+            *res = [u64::from(number), place, 0];
+            number
+        }
+    }
 }
 
-fn put_counted(res: &mut [u64; 3], r: Counted)
-    ensures { res.new ≡ counted_numbers r }
+// Those of forward's. Gives the first.
+fn tell_sums(res: &mut [u64; 5], answer: Result<Sums, Refusal>) -> u32
+    ensures { Told (forward_numbers (forward_told answer)) result res.new }
 {
-    *res = [r.answer as u64, r.place, r.count as u64];
+    match answer {
+        Ok(Sums { count, area, edge }) => {
+            *res = [u64::from(DONE), 0, count as u64, area, edge];
+            DONE
+        }
+        Err(Refusal { reason, place }) => {
+            let number = u32::from(reason);
+            *res = [u64::from(number), place, 0, 0, 0];
+            number
+        }
+    }
 }
 
 fn put_rect(rect: &mut [i32; 4], r: Rect)
     ensures { rect.new ≡ r.x ∷ r.y ∷ r.w ∷ r.h ∷ [] }
 {
-    let x = r.x;
-    let y = r.y;
-    let w = r.w;
-    let h = r.h;
-    *rect = [x, y, w, h];
+    *rect = [r.x, r.y, r.w, r.h];
 }
 
 // ---- The functions for C
 
-// The rectangles of the points. Gives the answer's number; the result's numbers are answer, place, count, area, edge.
+/// The rectangles of the points. Gives the answer's number; the result's numbers are answer, place, count, area, edge.
 #[unsafe(no_mangle)]
 pub extern "C" fn panbuckle_forward(
     points: &[i32],
@@ -47,13 +71,11 @@ pub extern "C" fn panbuckle_forward(
 ) -> u32
     ensures { ForwardCalled points.now work.old rects.old result work.new rects.new res.new }
 {
-    let r = panbuckle::forward(points, work, rects);
-    put_forward(res, r);
-    r.answer
+    tell_sums(res, panbuckle::forward(points, work, rects))
 }
 
-// One rectangle of the `count` points in `work`. Gives the answer's number; the result's numbers are answer, place and the count of
-// the points that are left, and the rectangle's are X, Y, W, H.
+/// One rectangle of the `count` points in `work`. Gives the answer's number; the result's numbers are answer, place and the count of
+/// the points that are left, and the rectangle's are X, Y, W, H.
 #[unsafe(no_mangle)]
 pub extern "C" fn panbuckle_step(
     work: &mut [i32],
@@ -64,32 +86,23 @@ pub extern "C" fn panbuckle_step(
     ensures { StepCalled work.old count rect.old result work.new rect.new res.new }
 {
     match panbuckle::step(work, count) {
-        StepAnswer::Rectangle {
-            rect: made,
-            count: left,
-        } => {
-            put_rect(rect, made);
-            put_counted(res, done(left));
-            DONE
+        Ok(step) => {
+            put_rect(rect, step.rect);
+            tell_count(res, Ok(step.count))
         }
-        StepAnswer::Refused { answer, place } => {
-            put_counted(res, refusal(answer, place));
-            answer
-        }
+        Err(refusal) => tell_count(res, Err(refusal)),
     }
 }
 
-// The points of the rectangles. Gives the answer's number; the result's numbers are answer, place, count.
+/// The points of the rectangles. Gives the answer's number; the result's numbers are answer, place, count.
 #[unsafe(no_mangle)]
 pub extern "C" fn panbuckle_backward(rects: &[i32], points: &mut [i32], res: &mut [u64; 3]) -> u32
     ensures { BackwardCalled rects.now points.old result points.new res.new }
 {
-    let r = panbuckle::backward(rects, points);
-    put_counted(res, r);
-    r.answer
+    tell_count(res, panbuckle::backward(rects, points))
 }
 
-// The corners of the layer's boundaries in the structure of the name. Gives the answer's number; the result's numbers are answer, place, count.
+/// The corners of the layer's boundaries in the structure of the name. Gives the answer's number; the result's numbers are answer, place, count.
 #[unsafe(no_mangle)]
 pub extern "C" fn panbuckle_read_gdsii(
     bytes: &[u8],
@@ -101,12 +114,10 @@ pub extern "C" fn panbuckle_read_gdsii(
 ) -> u32
     ensures { ReadCalled bytes.now name.now layer corners.old result scratch.new corners.new res.new }
 {
-    let r = gdsii::read_gdsii(bytes, name, layer, scratch, corners);
-    put_counted(res, r);
-    r.answer
+    tell_count(res, gdsii::read_gdsii(bytes, name, layer, scratch, corners))
 }
 
-// The version. The name has it too, so that a program that was built with another version's header does not link.
+/// The version. The name has it too, so that a program that was built with another version's header does not link.
 #[unsafe(no_mangle)]
 pub extern "C" fn panbuckle_version_3() -> u32
     ensures { result ≡ version }

@@ -2,9 +2,9 @@
 #![tactic(auto)]
 
 fn main(rt: HostRuntime) {
-    let mut bytes: [u8; 65537] = [0; 65537];
+    let mut bytes = [0; 65537];
     let length = ends::read_input(rt, &mut bytes);
-    let mut drawn: [u8; drawing::MOST_DRAWN] = [0; drawing::MOST_DRAWN];
+    let mut drawn = [0; drawing::MOST_DRAWN];
     let n = drawing::picture(&bytes[..length], &mut drawn);
     ends::write_output(rt, &drawn[..n]);
 }

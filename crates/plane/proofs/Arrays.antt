@@ -33,6 +33,20 @@ point-numbers (x ∷ []) i h = absurd (omega arith)
 point-numbers (x ∷ y ∷ rest) zero h = refl
 point-numbers (x ∷ y ∷ rest) (suc i) h = rw (add-one, twice-suc i) (point-numbers rest i (omega arith) ∙ rw add-one)
 
+-- fewer than two numbers are no point
+pub points-none : (a : List ℤ) → length a < 2 → points_of a ≡ []
+unfolding points_of
+points-none [] h = refl
+points-none (x ∷ []) h = refl
+points-none (x ∷ y ∷ rest) h = absurd (omega arith)
+
+-- two numbers are a point, and the points of those after them come after it
+pub points-first : (a : List ℤ) → 2 ≤ length a → points_of a ≡ record { x = get_or a 0 (pos 0); y = get_or a 1 (pos 0) } ∷ points_of (drop 2 a)
+unfolding points_of
+points-first [] h = absurd (omega arith)
+points-first (x ∷ []) h = absurd (omega arith)
+points-first (x ∷ y ∷ rest) h = refl
+
 -- the points before the place after i
 pub points-next : (a : List ℤ) (i : ℕ) → i < length a / 2 → take (i + 1) (points_of a) ≡ take i (points_of a) ++ (get_or (points_of a) i origin ∷ [])
 points-next a i h = rw add-one (take-suc (points_of a) i origin (omega (arith, length-points a)))
@@ -113,7 +127,35 @@ module _ {A : Type 0} (make : ℤ → ℤ → ℤ → ℤ → A) where
   fours-set (x ∷ y ∷ w ∷ h ∷ rest) zero p q r s l = refl
   fours-set (x ∷ y ∷ w ∷ h ∷ rest) (suc i) p q r s l = simp (four-suc, suc-add) (ap (λ (m : List A). make x y w h ∷ m) (fours-set rest i p q r s (omega arith)))
 
+  -- fewer than four numbers make none
+  pub fours-none : (a : List ℤ) → length a < 4 → fours_of make a ≡ []
+  unfolding fours_of
+  fours-none [] l = refl
+  fours-none (x ∷ []) l = refl
+  fours-none (x ∷ y ∷ []) l = refl
+  fours-none (x ∷ y ∷ w ∷ []) l = refl
+  fours-none (x ∷ y ∷ w ∷ h ∷ rest) l = absurd (omega arith)
+
+  -- four numbers make one, and those after them the ones after it
+  pub fours-first : (a : List ℤ) → 4 ≤ length a → fours_of make a ≡ make (get_or a 0 (pos 0)) (get_or a 1 (pos 0)) (get_or a 2 (pos 0)) (get_or a 3 (pos 0)) ∷ fours_of make (drop 4 a)
+  unfolding fours_of
+  fours-first [] l = absurd (omega arith)
+  fours-first (x ∷ []) l = absurd (omega arith)
+  fours-first (x ∷ y ∷ []) l = absurd (omega arith)
+  fours-first (x ∷ y ∷ w ∷ []) l = absurd (omega arith)
+  fours-first (x ∷ y ∷ w ∷ h ∷ rest) l = refl
+
 -- ---- Rectangles
+
+-- fewer than four numbers are no rectangle
+pub rects-none : (a : List ℤ) → length a < rect_size → rects_of a ≡ []
+unfolding rects_of
+rects-none a l = fours-none _ a l
+
+-- four numbers are a rectangle, and the rectangles of those after them come after it
+pub rects-first : (a : List ℤ) → rect_size ≤ length a → rects_of a ≡ record { x = get_or a 0 (pos 0); y = get_or a 1 (pos 0); w = get_or a 2 (pos 0); h = get_or a 3 (pos 0) } ∷ rects_of (drop rect_size a)
+unfolding rects_of
+rects-first a l = fours-first _ a l
 
 -- an array has a quarter as many rectangles as numbers
 pub length-rects : (a : List ℤ) → length (rects_of a) ≡ length a / rect_size

@@ -184,14 +184,6 @@ distance-up a b h =
     let d : dn (b -ℤ a) ≤ up (b -ℤ a) = omega order in
     omega (order, abs-up (b -ℤ a) d)
 
--- and to one that is not higher
-pub distance-down : (a b : ℤ) → le_z b a ≡ true → nat_abs (b -ℤ a) + (up b + dn a) ≡ up a + dn b
-distance-down a b h =
-    let s = add-up a (b -ℤ a) in
-    let t = far-side a b in
-    let d : up (b -ℤ a) ≤ dn (b -ℤ a) = omega order in
-    omega (order, abs-down (b -ℤ a) d)
-
 -- one less
 pub pred-up : (z : ℤ) → up (pred_ℤ z) + dn z + 1 ≡ dn (pred_ℤ z) + up z
 unfolding up dn

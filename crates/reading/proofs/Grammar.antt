@@ -5,7 +5,8 @@ use mathlib.Core.Path.{◌≡◌, refl, ap}
 use mathlib.Core.Logic.{◌↔◌}
 use mathlib.Core.Bool.{Bool, true, false, cond}
 use mathlib.Core.List.{List, [], ◌∷◌, ◌++◌}
-use mathlib.Core.Option.{Option, none, some, none-ne-some}
+use Rattle.std.specs.Prelude.{Option, None, Some}
+use Rattle.std.proofs.lemmas.Option.{none-some}
 use lib.IntN.{ℤ}
 use lib.Dec.{eqb}
 use borrow.Author.Tests.{eqb-true, eq-eqb, ne_eqb}
@@ -40,7 +41,7 @@ parted c (b ∷ xs) ys h =
 
 -- ---- A number has no space
 
-digits-no-space : (bs : List ℕ) → ¬ (value_of bs ≡ none) → any (λ b. eqb b space) bs ≡ false
+digits-no-space : (bs : List ℕ) → ¬ (value_of bs ≡ None) → any (λ b. eqb b space) bs ≡ false
 unfolding are_digits any
 digits-no-space bs n = go bs (by (are_digits bs) (λ f. n (value-undigits bs f)))
   where
@@ -51,38 +52,38 @@ digits-no-space bs n = go bs (by (are_digits bs) (λ f. n (value-undigits bs f))
         let r = digit-range b k.0 in
         rw (ne_eqb b space (omega arith)) (go bs k.1)
 
-number-no-space : (bs : List ℕ) {z : ℤ} → number_of bs ≡ some z → any (λ b. eqb b space) bs ≡ false
+number-no-space : (bs : List ℕ) {z : ℤ} → number_of bs ≡ Some z → any (λ b. eqb b space) bs ≡ false
 unfolding number_of any
 number-no-space [] e = refl
 number-no-space (b ∷ bs) e = go (eqb b minus) refl e
   where
-    go : {z : ℤ} (u : Bool) → eqb b minus ≡ u → cond u (as_negative (value_of bs)) (as_plain (value_of (b ∷ bs))) ≡ some z → any (λ c. eqb c space) (b ∷ bs) ≡ false
+    go : {z : ℤ} (u : Bool) → eqb b minus ≡ u → cond u (as_negative (value_of bs)) (as_plain (value_of (b ∷ bs))) ≡ Some z → any (λ c. eqb c space) (b ∷ bs) ≡ false
     go true d e =
         let k : b ≡ minus = eqb-true b minus d in
-        rw (ne_eqb b space (omega arith)) (digits-no-space bs (λ f. none-ne-some _ (rw f at e)))
-    go false d e = digits-no-space (b ∷ bs) (λ f. none-ne-some _ (rw f at e))
+        rw (ne_eqb b space (omega arith)) (digits-no-space bs (λ f. none-some _ (rw f at e)))
+    go false d e = digits-no-space (b ∷ bs) (λ f. none-some _ (rw f at e))
 
 -- ---- A good line
 
-from-both : (o u : Option ℤ) {p : Point} → point_from o u ≡ some p → (o ≡ some p.x) × (u ≡ some p.y)
-from-both none u e = absurd (none-ne-some _ e)
-from-both (some a) none e = absurd (none-ne-some _ e)
-from-both (some a) (some b) {p} e =
+from-both : (o u : Option ℤ) {p : Point} → point_from o u ≡ Some p → (o ≡ Some p.x) × (u ≡ Some p.y)
+from-both None u e = absurd (none-some _ e)
+from-both (Some a) None e = absurd (none-some _ e)
+from-both (Some a) (Some b) {p} e =
     let k : record { x = a; y = b } ≡ p = cc in
-    (ap (λ (q : Point). some q.x) k, ap (λ (q : Point). some q.y) k)
+    (ap (λ (q : Point). Some q.x) k, ap (λ (q : Point). Some q.y) k)
 
 -- a line's point is (x, y) exactly when the line is x, one space, y, newline
-pub good-exactly : (l : Line) (x y : ℤ) → (line_point l ≡ some (record { x = x; y = y })) ↔ GoodLine l x y
+pub good-exactly : (l : Line) (x y : ℤ) → (line_point l ≡ Some (record { x = x; y = y })) ↔ GoodLine l x y
 unfolding line_point number_of
 good-exactly l x y = (go, back)
   where
-    go : line_point l ≡ some (record { x = x; y = y }) → GoodLine l x y
+    go : line_point l ≡ Some (record { x = x; y = y }) → GoodLine l x y
     go e =
         let d = good-ended l e in
         let k = from-both (number_of (before_first space l.bytes)) (number_of (after_first space l.bytes)) (rw d at e) in
-        record { xs = before_first space l.bytes; ys = after_first space l.bytes; bytes = parts space l.bytes (λ f. none-ne-some _ (rw f at k.1)); ended = d; first = k.0; second = k.1 }
+        record { xs = before_first space l.bytes; ys = after_first space l.bytes; bytes = parts space l.bytes (λ f. none-some _ (rw f at k.1)); ended = d; first = k.0; second = k.1 }
 
-    back : GoodLine l x y → line_point l ≡ some (record { x = x; y = y })
+    back : GoodLine l x y → line_point l ≡ Some (record { x = x; y = y })
     back g = let p = parted space g.xs g.ys (number-no-space g.xs g.first) in rw (g.ended, g.bytes, p.0, p.1, g.first, g.second)
 
 -- a line that no newline ends is bad

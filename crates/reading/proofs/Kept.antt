@@ -9,8 +9,7 @@ use lib.IntN.{ℤ}
 use Rattle.plane.specs.Words.{flat_points, most_points}
 use Rattle.plane.proofs.Arrays.{length-flat-points}
 use Rattle.plane.proofs.AtStart.{points-layout, first-numbers}
-use Rattle.entry.specs.declared.Counted.{Counted}
-use Rattle.entry.specs.Entry.{number_in, Kept}
+use Rattle.entry.specs.Entry.{number_in, Kept, Counted}
 use Rattle.entry.specs.Checks.{Check, accepted, refused, verdict}
 use Rattle.entry.proofs.Verdicts.{verdict-case, accepted-clear, clear-append, verdict-append}
 use Rattle.entry.proofs.Entry.{Numbered, counted-accepted, kept}

@@ -1,6 +1,5 @@
 -- The lines of a text, and the point that a good line is.
-use Rattle.std.specs.Prelude.{ℕ, ◌≡◌, Bool, true, false, cond, List, [], ◌∷◌, ◌++◌, get_or, ℤ, eqb}
-use Rattle.std.proofs.Math.Option.{Option, none, some}
+use Rattle.std.specs.Prelude.{ℕ, ◌≡◌, Bool, true, false, cond, List, [], ◌∷◌, ◌++◌, get_or, ℤ, eqb, Option, None, Some}
 use Rattle.plane.specs.declared.Point.{Point}
 use Rattle.numerals.specs.Numerals.{number_of}
 
@@ -49,13 +48,13 @@ line_at ls i = get_or ls i (record { bytes = []; ended = false })
 
 -- the point of two numbers, if both are there
 abbrev pub point_from : Option ℤ → Option ℤ → Option Point
-point_from none y = none
-point_from (some x) none = none
-point_from (some x) (some y) = some (record { x = x; y = y })
+point_from None y = None
+point_from (Some x) None = None
+point_from (Some x) (Some y) = Some (record { x = x; y = y })
 
 -- a good line is x, one space, y, newline
 unfoldable pub line_point : Line → Option Point
-line_point l = cond l.ended (point_from (number_of (before_first space l.bytes)) (number_of (after_first space l.bytes))) none
+line_point l = cond l.ended (point_from (number_of (before_first space l.bytes)) (number_of (after_first space l.bytes))) None
 
 -- the same as document 01 says it: x, one space, y, newline
 pub record GoodLine (l : Line) (x y : ℤ) : Type 0 where
@@ -63,13 +62,13 @@ pub record GoodLine (l : Line) (x y : ℤ) : Type 0 where
   pub ys : List ℕ
   pub bytes : l.bytes ≡ xs ++ (space ∷ ys)
   pub ended : l.ended ≡ true
-  pub first : number_of xs ≡ some x
-  pub second : number_of ys ≡ some y
+  pub first : number_of xs ≡ Some x
+  pub second : number_of ys ≡ Some y
 
 -- there is nothing
 abbrev pub is_none : {A : Type 0} → Option A → Bool
-is_none none = true
-is_none (some a) = false
+is_none None = true
+is_none (Some a) = false
 
 -- a bad line
 unfoldable pub is_bad : Line → Bool
@@ -77,8 +76,8 @@ is_bad l = is_none (line_point l)
 
 -- a line's point before others, if it is good
 abbrev pub with_point : Option Point → List Point → List Point
-with_point none ps = ps
-with_point (some p) ps = p ∷ ps
+with_point None ps = ps
+with_point (Some p) ps = p ∷ ps
 
 -- the points of the good lines
 unfoldable pub points_in : List Line → List Point

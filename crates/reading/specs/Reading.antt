@@ -2,8 +2,7 @@
 use Rattle.std.specs.Prelude.{ℕ, ◌/◌, List, [], ◌∷◌, ◌++◌, length, ℤ}
 use Rattle.plane.specs.declared.Point.{Point}
 use Rattle.plane.specs.Words.{flat_points, most_points}
-use Rattle.entry.specs.declared.Counted.{Counted}
-use Rattle.entry.specs.Entry.{Done}
+use Rattle.entry.specs.Entry.{Done, Counted}
 use Rattle.entry.specs.Checks.{Check}
 use Rattle.rule.specs.Rows.{MANY, TEXT, ROOM}
 use Rattle.reading.specs.Lines.{lines_of, line_at, is_bad, points_in}

@@ -5,8 +5,11 @@ use mathlib.Core.Bool.{Bool, true, false, ◌&&◌}
 use mathlib.Core.List.{List, [], ◌∷◌}
 use lib.ListN.{get_or}
 use Rattle.records.specs.Format.{Kind, table, fits_in, fits, fits_length}
+use Rattle.std.proofs.Common.{None}
+use Rattle.std.specs.Option.{is_some}
+use Rattle.records.specs.declared.TheConstants.{DATA}
+use Rattle.records.specs.Inner.{fits_data}
 use Rattle.records.specs.Records.{known}
-use Rattle.records.specs.Inner.{fits_as}
 use native.Mathlib.Omega.{arith}
 use lib.Dec.{eqb, ltb}
 use borrow.Author.Tests.{ltb-true, ne_eqb}
@@ -14,25 +17,19 @@ use Rattle.plane.specs.Lists.{any}
 use Rattle.plane.proofs.Bools.{and_parts, or_parts}
 use Rattle.records.proofs.Tables.{All, all-at}
 
-abbrev pub forms : List ℕ
-forms = 2 ∷ 2 ∷ 6 ∷ 5 ∷ 0 ∷ 2 ∷ 6 ∷ 0 ∷ 0 ∷ 0 ∷ 0 ∷ 0 ∷ 0 ∷ 2 ∷ 2 ∷ 3 ∷ 3 ∷ 0 ∷ 6 ∷ 2 ∷ 0 ∷ 0 ∷ 2 ∷ 1 ∷ 0 ∷ 6 ∷ 1 ∷ 5 ∷ 5 ∷ 0 ∷ 0 ∷ 6 ∷ 6 ∷ 2 ∷ 2 ∷ 6 ∷ 0 ∷ 0 ∷ 1 ∷ 0 ∷ 0 ∷ 0 ∷ 2 ∷ 2 ∷ 6 ∷ 0 ∷ 2 ∷ 3 ∷ 3 ∷ 3 ∷ 0 ∷ 0 ∷ 1 ∷ 0 ∷ 2 ∷ 6 ∷ 0 ∷ 2 ∷ 6 ∷ 2 ∷ []
+-- ---- The code's table
 
-abbrev pub leasts : List ℕ
-leasts = 2 ∷ 24 ∷ 0 ∷ 16 ∷ 0 ∷ 24 ∷ 0 ∷ 0 ∷ 0 ∷ 0 ∷ 0 ∷ 0 ∷ 0 ∷ 2 ∷ 2 ∷ 4 ∷ 0 ∷ 0 ∷ 0 ∷ 4 ∷ 0 ∷ 0 ∷ 2 ∷ 2 ∷ 0 ∷ 0 ∷ 2 ∷ 8 ∷ 8 ∷ 0 ∷ 0 ∷ 0 ∷ 0 ∷ 2 ∷ 2 ∷ 0 ∷ 0 ∷ 0 ∷ 2 ∷ 0 ∷ 0 ∷ 0 ∷ 2 ∷ 2 ∷ 0 ∷ 0 ∷ 2 ∷ 4 ∷ 4 ∷ 4 ∷ 0 ∷ 0 ∷ 2 ∷ 0 ∷ 2 ∷ 0 ∷ 0 ∷ 2 ∷ 0 ∷ 6 ∷ []
-
-abbrev pub units_at : List ℕ
-units_at = 0 ∷ 0 ∷ 1 ∷ 0 ∷ 0 ∷ 0 ∷ 1 ∷ 0 ∷ 0 ∷ 0 ∷ 0 ∷ 0 ∷ 0 ∷ 0 ∷ 0 ∷ 0 ∷ 8 ∷ 0 ∷ 1 ∷ 0 ∷ 255 ∷ 0 ∷ 0 ∷ 0 ∷ 255 ∷ 1 ∷ 0 ∷ 0 ∷ 0 ∷ 255 ∷ 255 ∷ 1 ∷ 1 ∷ 0 ∷ 0 ∷ 1 ∷ 255 ∷ 255 ∷ 0 ∷ 255 ∷ 255 ∷ 255 ∷ 0 ∷ 0 ∷ 1 ∷ 0 ∷ 0 ∷ 0 ∷ 0 ∷ 0 ∷ 255 ∷ 255 ∷ 0 ∷ 255 ∷ 0 ∷ 1 ∷ 0 ∷ 0 ∷ 1 ∷ 6 ∷ []
-
-abbrev At : ℕ → Type 0
-At k = (b n : ℕ) → fits k b n ≡ fits_as (get_or forms k 0) (get_or leasts k 0) (get_or units_at k 0) b n
+-- what it says of a type
+abbrev pub At : ℕ → Type 0
+At k = ((b n : ℕ) → fits_data (get_or DATA k None) b n ≡ fits k b n) × (is_some (get_or DATA k None) ≡ known k)
 
 rows : All At 60
-unfolding fits fits_in table fits_length
-rows = ((λ b n. refl), ((λ b n. refl), ((λ b n. refl), ((λ b n. refl), ((λ b n. refl), ((λ b n. refl), ((λ b n. refl), ((λ b n. refl), ((λ b n. refl), ((λ b n. refl), ((λ b n. refl), ((λ b n. refl), ((λ b n. refl), ((λ b n. refl), ((λ b n. refl), ((λ b n. refl), ((λ b n. refl), ((λ b n. refl), ((λ b n. refl), ((λ b n. refl), ((λ b n. refl), ((λ b n. refl), ((λ b n. refl), ((λ b n. refl), ((λ b n. refl), ((λ b n. refl), ((λ b n. refl), ((λ b n. refl), ((λ b n. refl), ((λ b n. refl), ((λ b n. refl), ((λ b n. refl), ((λ b n. refl), ((λ b n. refl), ((λ b n. refl), ((λ b n. refl), ((λ b n. refl), ((λ b n. refl), ((λ b n. refl), ((λ b n. refl), ((λ b n. refl), ((λ b n. refl), ((λ b n. refl), ((λ b n. refl), ((λ b n. refl), ((λ b n. refl), ((λ b n. refl), ((λ b n. refl), ((λ b n. refl), ((λ b n. refl), ((λ b n. refl), ((λ b n. refl), ((λ b n. refl), ((λ b n. refl), ((λ b n. refl), ((λ b n. refl), ((λ b n. refl), ((λ b n. refl), ((λ b n. refl), ((λ b n. refl), tt))))))))))))))))))))))))))))))))))))))))))))))))))))))))))))
+unfolding fits fits_in table fits_length known any
+rows = ((λ b n. refl, refl), ((λ b n. refl, refl), ((λ b n. refl, refl), ((λ b n. refl, refl), ((λ b n. refl, refl), ((λ b n. refl, refl), ((λ b n. refl, refl), ((λ b n. refl, refl), ((λ b n. refl, refl), ((λ b n. refl, refl), ((λ b n. refl, refl), ((λ b n. refl, refl), ((λ b n. refl, refl), ((λ b n. refl, refl), ((λ b n. refl, refl), ((λ b n. refl, refl), ((λ b n. refl, refl), ((λ b n. refl, refl), ((λ b n. refl, refl), ((λ b n. refl, refl), ((λ b n. refl, refl), ((λ b n. refl, refl), ((λ b n. refl, refl), ((λ b n. refl, refl), ((λ b n. refl, refl), ((λ b n. refl, refl), ((λ b n. refl, refl), ((λ b n. refl, refl), ((λ b n. refl, refl), ((λ b n. refl, refl), ((λ b n. refl, refl), ((λ b n. refl, refl), ((λ b n. refl, refl), ((λ b n. refl, refl), ((λ b n. refl, refl), ((λ b n. refl, refl), ((λ b n. refl, refl), ((λ b n. refl, refl), ((λ b n. refl, refl), ((λ b n. refl, refl), ((λ b n. refl, refl), ((λ b n. refl, refl), ((λ b n. refl, refl), ((λ b n. refl, refl), ((λ b n. refl, refl), ((λ b n. refl, refl), ((λ b n. refl, refl), ((λ b n. refl, refl), ((λ b n. refl, refl), ((λ b n. refl, refl), ((λ b n. refl, refl), ((λ b n. refl, refl), ((λ b n. refl, refl), ((λ b n. refl, refl), ((λ b n. refl, refl), ((λ b n. refl, refl), ((λ b n. refl, refl), ((λ b n. refl, refl), ((λ b n. refl, refl), ((λ b n. refl, refl), tt))))))))))))))))))))))))))))))))))))))))))))))))))))))))))))
 
 -- each type below 60
-pub fits-row : (k b n : ℕ) → k < 60 → fits k b n ≡ fits_as (get_or forms k 0) (get_or leasts k 0) (get_or units_at k 0) b n
-fits-row k b n h = all-at At 60 rows k h b n
+pub at-row : (k : ℕ) → k < 60 → At k
+at-row k h = all-at At 60 rows k h
 
 -- ---- Types that are not in the table
 

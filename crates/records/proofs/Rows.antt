@@ -1,4 +1,4 @@
--- Laws of the order's rows, as the code's arrays have them.
+-- Laws of the order's rows, as the code's table has them.
 use mathlib.Core.Path.{◌≡◌, refl, sym, ap, ◌∙◌}
 use mathlib.Core.Logic.{◌⊎◌, inl, inr, ◌≢◌}
 use Prim.Native.Nat.{ℕ, zero, suc, ◌+◌, ◌≤◌, ◌<◌}
@@ -10,28 +10,33 @@ use lib.Dec.{eqb, ltb}
 use borrow.Author.Tests.{ltb-true, eqb-true, eq-eqb, ne_eqb}
 use Rattle.plane.proofs.Bools.{or-one, and_parts, cond-true, cond-false}
 use Rattle.plane.proofs.Maps.{map_at}
+use Rattle.std.proofs.Common.{Some, None}
+use Rattle.records.specs.declared.Row.{Row as CodeRow}
+use Rattle.records.specs.declared.TheConstants.{ORDER}
 use Rattle.records.specs.Format.{Row, row, order, follow_in, follow}
-use Rattle.records.proofs.Tables.{every, every-at}
+use Rattle.records.specs.Inner.{row_of}
 
 -- ---- Rows in order
 
--- rows are numbered from i on, and each skips to a row further down or to none
+-- rows are numbered from i on, and each leads to some row, and skips to one further down or to none
 numbered : ℕ → List Row → Bool
 numbered i [] = true
-numbered i (r ∷ rs) = (eqb r.at i && (eqb r.skip 0 || ltb i r.skip)) && numbered (suc i) rs
+numbered i (r ∷ rs) = (eqb r.at i && (ltb 0 r.next && (eqb r.skip 0 || ltb i r.skip))) && numbered (suc i) rs
 
 -- what a row's numbering says
 record Numbered (i : ℕ) (r : Row) (rs : List Row) : Type 0 where
   here : r.at ≡ i
+  leads : 0 < r.next
   down : (r.skip ≡ 0) ⊎ (i < r.skip)
   rest : numbered (suc i) rs ≡ true
 
 number : (i : ℕ) (r : Row) (rs : List Row) → numbered i (r ∷ rs) ≡ true → Numbered i r rs
 unfolding numbered
 number i r rs e =
-    let h = and_parts (eqb r.at i && (eqb r.skip 0 || ltb i r.skip)) (numbered (suc i) rs) e in
-    let k = and_parts (eqb r.at i) (eqb r.skip 0 || ltb i r.skip) h.0 in
-    record { here = eqb-true r.at i k.0; down = go (or-one (eqb r.skip 0) (ltb i r.skip) k.1); rest = h.1 }
+    let h = and_parts (eqb r.at i && (ltb 0 r.next && (eqb r.skip 0 || ltb i r.skip))) (numbered (suc i) rs) e in
+    let k = and_parts (eqb r.at i) (ltb 0 r.next && (eqb r.skip 0 || ltb i r.skip)) h.0 in
+    let l = and_parts (ltb 0 r.next) (eqb r.skip 0 || ltb i r.skip) k.1 in
+    record { here = eqb-true r.at i k.0; leads = ltb-true 0 r.next l.0; down = go (or-one (eqb r.skip 0) (ltb i r.skip) l.1); rest = h.1 }
   where
     go : (eqb r.skip 0 ≡ true) ⊎ (ltb i r.skip ≡ true) → (r.skip ≡ 0) ⊎ (i < r.skip)
     go (inl d) = inl (eqb-true r.skip 0 d)
@@ -71,17 +76,18 @@ none = row 0 0 0 0
 Does : List Row → Row → (at t : ℕ) → Type 0
 Does rs r at t = follow_in rs at t ≡ cond (eqb r.type t) r.next (follow_in rs r.skip t)
 
--- the number 0 or a number above i
-Down : ℕ → ℕ → Type 0
-Down i s = (s ≡ 0) ⊎ (i < s)
+-- it leads to some row, and skips to one above i or to none
+record Way (i : ℕ) (r : Row) : Type 0 where
+  leads : 0 < r.next
+  down : (r.skip ≡ 0) ⊎ (i < r.skip)
 
-at_place : (rs : List Row) (i k t : ℕ) → 0 < i → numbered i rs ≡ true → k < length rs → (Does rs (get_or rs k none) (i + k) t) × Down (i + k) (get_or rs k none).skip
-unfolding Does Down
+at_place : (rs : List Row) (i k t : ℕ) → 0 < i → numbered i rs ≡ true → k < length rs → (Does rs (get_or rs k none) (i + k) t) × Way (i + k) (get_or rs k none)
+unfolding Does
 at_place [] i k t z e h = absurd (omega arith)
 at_place (r ∷ rs) i zero t z e h =
     let k = number i r rs e in
     let same : i + 0 ≡ i = omega arith in
-    (rw same (this r rs i t k.here ∙ ap (cond (eqb r.type t) r.next) (sym (pass r rs r.skip t (λ d. apart k.down (sym k.here ∙ d))))), rw same k.down)
+    (rw same (this r rs i t k.here ∙ ap (cond (eqb r.type t) r.next) (sym (pass r rs r.skip t (λ d. apart k.down (sym k.here ∙ d))))), rw same (record { leads = k.leads; down = k.down }))
   where
     apart : (r.skip ≡ 0) ⊎ (i < r.skip) → i ≡ r.skip → ⊥
     apart (inl d) g = omega arith
@@ -90,22 +96,11 @@ at_place (r ∷ rs) i (suc k) t z e h =
     let m = number i r rs e in
     let same : i + suc k ≡ suc i + k = omega arith in
     let ih = at_place rs (suc i) k t (omega arith) m.rest (omega arith) in
-    (rw same (pass r rs (suc i + k) t (λ d. omega (arith, m.here)) ∙ ih.0 ∙ ap (cond (eqb (get_or rs k none).type t) (get_or rs k none).next) (sym (pass r rs (get_or rs k none).skip t (λ d. apart (get_or rs k none).skip ih.1 (sym m.here ∙ d))))), rw same ih.1)
+    (rw same (pass r rs (suc i + k) t (λ d. omega (arith, m.here)) ∙ ih.0 ∙ ap (cond (eqb (get_or rs k none).type t) (get_or rs k none).next) (sym (pass r rs (get_or rs k none).skip t (λ d. apart (get_or rs k none).skip ih.1.down (sym m.here ∙ d))))), rw same ih.1)
   where
     apart : (s : ℕ) → (s ≡ 0) ⊎ (suc i + k < s) → i ≡ s → ⊥
     apart s (inl d) g = omega arith
     apart s (inr d) g = omega arith
-
--- ---- The code's arrays: the columns of the rows, after row 0
-
-abbrev pub types : List ℕ
-types = 255 ∷ map (λ (r : Row). r.type) order
-
-abbrev pub nexts : List ℕ
-nexts = 0 ∷ map (λ (r : Row). r.next) order
-
-abbrev pub skips : List ℕ
-skips = 0 ∷ map (λ (r : Row). r.skip) order
 
 order-numbered : numbered 1 order ≡ true
 unfolding numbered order
@@ -125,37 +120,70 @@ pub follow-past : (at t : ℕ) → 82 ≤ at → follow at t ≡ 0
 unfolding follow
 follow-past at t h = past-last order 1 at t order-numbered (omega (arith, order-length))
 
-column : (f : Row → ℕ) (x k : ℕ) → k < 81 → get_or (x ∷ map f order) (suc k) 0 ≡ f (get_or order k none)
-column f x k h = map_at f order k none 0 (omega (arith, order-length))
+-- ---- The code's table
 
--- the same of a row's three numbers
-by-numbers : (rs : List Row) (r : Row) (k t ty nx sk : ℕ) → (Does rs r (1 + k) t) × Down (1 + k) r.skip → ty ≡ r.type → nx ≡ r.next → sk ≡ r.skip → (follow_in rs (suc k) t ≡ cond (eqb ty t) nx (follow_in rs sk t)) × Down (suc k) sk
-unfolding Does Down
-by-numbers rs r k t ty nx sk d a b c = let e : 1 + k ≡ suc k = omega arith in (rw (a, b, c) (rw e at d.0), rw c (rw e at d.1))
+-- a row of it
+coded : Row → CodeRow
+coded r = record { 0 = r.type; 1 = r.next; 2 = row_of r.skip }
 
-row-numbers : (k t : ℕ) → k < 81 → (follow_in order (suc k) t ≡ cond (eqb (get_or types (suc k) 0) t) (get_or nexts (suc k) 0) (follow_in order (get_or skips (suc k) 0) t)) × Down (suc k) (get_or skips (suc k) 0)
-row-numbers k t h = by-numbers order (get_or order k none) k t (get_or types (suc k) 0) (get_or nexts (suc k) 0) (get_or skips (suc k) 0) (at_place order 1 k t (omega arith) order-numbered (omega (arith, order-length))) (column (λ (r : Row). r.type) 255 k h) (column (λ (r : Row). r.next) 0 k h) (column (λ (r : Row). r.skip) 0 k h)
+order-is : ORDER ≡ map coded order
+unfolding order coded
+order-is = refl
 
--- a row's record leads to its next row; another one is tried where the row says
-pub follow-row : (i t : ℕ) → 0 < i → i < 82 → follow i t ≡ cond (eqb (get_or types i 0) t) (get_or nexts i 0) (follow (get_or skips i 0) t)
-unfolding follow
-follow-row zero t g h = absurd (omega arith)
-follow-row (suc k) t g h = (row-numbers k t (omega arith)).0
+-- what a row's numbers are in it
+row-some : (n : ℕ) → 0 < n → row_of n ≡ Some n
+row-some zero h = absurd (omega arith)
+row-some (suc n) h = refl
 
-module _ (i t : ℕ) (g : 0 < i) (h : i < 82) where
-  pub follow-taken : get_or types i 0 ≡ t → follow i t ≡ get_or nexts i 0
-  follow-taken e = follow-row i t g h ∙ cond-true (eqb (get_or types i 0) t) (get_or nexts i 0) (follow (get_or skips i 0) t) (eq-eqb (get_or types i 0) t e)
+skips-to : (n s : ℕ) → row_of n ≡ Some s → (n ≡ s) × (0 < n)
+skips-to zero s e = absurd cc
+skips-to (suc n) s e = (cc, omega arith)
 
-  pub follow-left : get_or types i 0 ≢ t → follow i t ≡ follow (get_or skips i 0) t
-  follow-left n = follow-row i t g h ∙ cond-false (eqb (get_or types i 0) t) (get_or nexts i 0) (follow (get_or skips i 0) t) (ne_eqb (get_or types i 0) t n)
+skips-none : (n : ℕ) → row_of n ≡ None → n ≡ 0
+skips-none zero e = refl
+skips-none (suc n) e = absurd cc
 
--- which is further down
-pub skips-down : (i : ℕ) → i < 82 → (get_or skips i 0 ≡ 0) ⊎ (i < get_or skips i 0)
-unfolding Down
-skips-down zero h = inl refl
-skips-down (suc k) h = (row-numbers k 0 (omega arith)).1
+-- the row that stands nowhere
+abbrev pub blank : CodeRow
+blank = record { 0 = 0; 1 = 0; 2 = None }
 
--- and a row
-pub skips-most : (i : ℕ) → i < 82 → get_or skips i 0 < 82
-unfolding every order
-skips-most i h = ltb-true (get_or skips i 0) 82 (every-at (λ k x. ltb x 82) skips refl i h)
+-- a row by its place
+abbrev at : ℕ → Row
+at k = get_or order k none
+
+module _ (k t : ℕ) {r : CodeRow} (h : k < 81) (is : r ≡ get_or ORDER k blank) where
+  same : r ≡ coded (at k)
+  same = is ∙ ap (λ (rs : List CodeRow). get_or rs k blank) order-is ∙ map_at coded order k none blank (omega (arith, order-length))
+
+  here : (follow (suc k) t ≡ cond (eqb (at k).type t) (at k).next (follow (at k).skip t)) × Way (suc k) (at k)
+  unfolding Does follow
+  here = let e : 1 + k ≡ suc k = omega arith in rw e at (at_place order 1 k t (omega arith) order-numbered (omega (arith, order-length)))
+
+  -- a record of the row's type leads to its next row
+  pub follow-taken : r.0 ≡ t → Some r.1 ≡ row_of (follow (suc k) t)
+  unfolding coded
+  follow-taken e =
+      let n : r.1 ≡ (at k).next = ap (λ (q : CodeRow). q.1) same in
+      let u : (at k).type ≡ t = sym (ap (λ (q : CodeRow). q.0) same) ∙ e in
+      ap Some n ∙ sym (ap row_of (here.0 ∙ cond-true (eqb (at k).type t) (at k).next (follow (at k).skip t) (eq-eqb (at k).type t u)) ∙ row-some (at k).next here.1.leads)
+
+  module _ (other : r.0 ≢ t) where
+    past : follow (suc k) t ≡ follow (at k).skip t
+    unfolding coded
+    past = here.0 ∙ cond-false (eqb (at k).type t) (at k).next (follow (at k).skip t) (ne_eqb (at k).type t (λ e. other (ap (λ (q : CodeRow). q.0) same ∙ e)))
+
+    -- another one is tried where the row says, which is further down
+    pub follow-left : (s : ℕ) → r.2 ≡ Some s → (follow s t ≡ follow (suc k) t) × (suc k < s)
+    unfolding coded
+    follow-left s e =
+        let u = skips-to (at k).skip s (sym (ap (λ (q : CodeRow). q.2) same) ∙ e) in
+        (sym (past ∙ ap (λ (n : ℕ). follow n t) u.0), go here.1.down u.0 u.1)
+      where
+        go : {n : ℕ} → (n ≡ 0) ⊎ (suc k < n) → n ≡ s → 0 < n → suc k < s
+        go (inl z) u g = absurd (omega arith)
+        go (inr l) u g = omega arith
+
+    -- or nowhere
+    pub follow-ended : r.2 ≡ None → follow (suc k) t ≡ 0
+    unfolding coded
+    follow-ended e = past ∙ ap (λ (n : ℕ). follow n t) (skips-none (at k).skip (sym (ap (λ (q : CodeRow). q.2) same) ∙ e)) ∙ follow-none t

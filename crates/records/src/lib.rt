@@ -3,15 +3,17 @@
 // specs/Records.antt.
 #![tactic(auto)]
 
-ghost use Rattle.std.specs.Prelude.{◌≡◌};
-ghost use Rattle.records.specs.Format.{fits, follow};
-ghost use Rattle.records.specs.Records.{head_of, treatment_of, record_of};
-ghost use Rattle.records.specs.Inner.{fits_as};
+ghost use Rattle.std.specs.Prelude.{◌≡◌, ℕ, is_some};
+ghost use Rattle.records.specs.Format.{fits_length, fits, follow};
+ghost use Rattle.records.specs.Records.{head_of, known, treatment_of, record_of};
+ghost use Rattle.records.specs.Inner.{length_of, fits_data, row_of};
 
-use bigendian::read_u16;
-use entry::{RECORD, TRUNCATED};
+use crate::Form::{AsciiText, BitArray, EightByteReal, FourByte, NoData, TwoByte};
+use crate::Length::{Exactly, Units};
+use bigendian::BigEndian;
+use entry::Reason;
 
-// ---- Record types
+// ---- Record types, as bytes: all 256 are treated, and an enum's `TryFrom` would name each of the 48 once more, in over 40 lines
 
 const HEADER: u8 = 0;
 
@@ -109,264 +111,252 @@ const SRFNAME: u8 = 58;
 
 const LIBSECUR: u8 = 59;
 
-// ---- The order of records, row by row as in specs/Format.antt; row 0 is none
+// ---- The order of records, row by row as in specs/Format.antt
 
-const NONE: u8 = 255;
+/// A row: the type that comes there, the row that it leads to, and the one where another type is tried; where there is none, it is refused.
+#[derive(Clone, Copy, Debug, PartialEq, Eq)]
+struct Row(u8, u8, Option<u8>);
 
-// The type of each row.
-const TYPES: [u8; 82] = [
-    NONE,
-    HEADER,
-    BGNLIB,
-    LIBDIRSIZE,
-    SRFNAME,
-    LIBSECUR,
-    LIBNAME,
-    REFLIBS,
-    FONTS,
-    ATTRTABLE,
-    GENERATIONS,
-    FORMAT,
-    MASK,
-    MASK,
-    ENDMASKS,
-    UNITS,
-    BGNSTR,
-    ENDLIB,
-    STRNAME,
-    STRCLASS,
-    BOUNDARY,
-    PATH,
-    SREF,
-    AREF,
-    TEXT,
-    NODE,
-    BOX,
-    ENDSTR,
-    ELFLAGS,
-    PLEX,
-    LAYER,
-    DATATYPE,
-    XY,
-    ELFLAGS,
-    PLEX,
-    LAYER,
-    DATATYPE,
-    PATHTYPE,
-    WIDTH,
-    BGNEXTN,
-    ENDEXTN,
-    XY,
-    ELFLAGS,
-    PLEX,
-    SNAME,
-    STRANS,
-    MAG,
-    ANGLE,
-    XY,
-    ELFLAGS,
-    PLEX,
-    SNAME,
-    STRANS,
-    MAG,
-    ANGLE,
-    COLROW,
-    XY,
-    ELFLAGS,
-    PLEX,
-    LAYER,
-    TEXTTYPE,
-    PRESENTATION,
-    PATHTYPE,
-    WIDTH,
-    STRANS,
-    MAG,
-    ANGLE,
-    XY,
-    STRING,
-    ELFLAGS,
-    PLEX,
-    LAYER,
-    NODETYPE,
-    XY,
-    ELFLAGS,
-    PLEX,
-    LAYER,
-    BOXTYPE,
-    XY,
-    PROPATTR,
-    PROPVALUE,
-    ENDEL,
+/// The rows, from row 1 on.
+const ORDER: [Row; 81] = [
+    Row(HEADER, 2, None),
+    Row(BGNLIB, 3, None),
+    Row(LIBDIRSIZE, 4, Some(4)),
+    Row(SRFNAME, 5, Some(5)),
+    Row(LIBSECUR, 6, Some(6)),
+    Row(LIBNAME, 7, None),
+    Row(REFLIBS, 8, Some(8)),
+    Row(FONTS, 9, Some(9)),
+    Row(ATTRTABLE, 10, Some(10)),
+    Row(GENERATIONS, 11, Some(11)),
+    Row(FORMAT, 12, Some(15)),
+    Row(MASK, 13, Some(15)),
+    Row(MASK, 13, Some(14)),
+    Row(ENDMASKS, 15, None),
+    Row(UNITS, 16, None),
+    Row(BGNSTR, 18, Some(17)),
+    Row(ENDLIB, 17, None),
+    Row(STRNAME, 19, None),
+    Row(STRCLASS, 20, Some(20)),
+    Row(BOUNDARY, 28, Some(21)),
+    Row(PATH, 33, Some(22)),
+    Row(SREF, 42, Some(23)),
+    Row(AREF, 49, Some(24)),
+    Row(TEXT, 57, Some(25)),
+    Row(NODE, 69, Some(26)),
+    Row(BOX, 74, Some(27)),
+    Row(ENDSTR, 16, None),
+    Row(ELFLAGS, 29, Some(29)),
+    Row(PLEX, 30, Some(30)),
+    Row(LAYER, 31, None),
+    Row(DATATYPE, 32, None),
+    Row(XY, 79, None),
+    Row(ELFLAGS, 34, Some(34)),
+    Row(PLEX, 35, Some(35)),
+    Row(LAYER, 36, None),
+    Row(DATATYPE, 37, None),
+    Row(PATHTYPE, 38, Some(38)),
+    Row(WIDTH, 39, Some(39)),
+    Row(BGNEXTN, 40, Some(40)),
+    Row(ENDEXTN, 41, Some(41)),
+    Row(XY, 79, None),
+    Row(ELFLAGS, 43, Some(43)),
+    Row(PLEX, 44, Some(44)),
+    Row(SNAME, 45, None),
+    Row(STRANS, 46, Some(48)),
+    Row(MAG, 47, Some(47)),
+    Row(ANGLE, 48, Some(48)),
+    Row(XY, 79, None),
+    Row(ELFLAGS, 50, Some(50)),
+    Row(PLEX, 51, Some(51)),
+    Row(SNAME, 52, None),
+    Row(STRANS, 53, Some(55)),
+    Row(MAG, 54, Some(54)),
+    Row(ANGLE, 55, Some(55)),
+    Row(COLROW, 56, None),
+    Row(XY, 79, None),
+    Row(ELFLAGS, 58, Some(58)),
+    Row(PLEX, 59, Some(59)),
+    Row(LAYER, 60, None),
+    Row(TEXTTYPE, 61, None),
+    Row(PRESENTATION, 62, Some(62)),
+    Row(PATHTYPE, 63, Some(63)),
+    Row(WIDTH, 64, Some(64)),
+    Row(STRANS, 65, Some(67)),
+    Row(MAG, 66, Some(66)),
+    Row(ANGLE, 67, Some(67)),
+    Row(XY, 68, None),
+    Row(STRING, 79, None),
+    Row(ELFLAGS, 70, Some(70)),
+    Row(PLEX, 71, Some(71)),
+    Row(LAYER, 72, None),
+    Row(NODETYPE, 73, None),
+    Row(XY, 79, None),
+    Row(ELFLAGS, 75, Some(75)),
+    Row(PLEX, 76, Some(76)),
+    Row(LAYER, 77, None),
+    Row(BOXTYPE, 78, None),
+    Row(XY, 79, None),
+    Row(PROPATTR, 80, Some(81)),
+    Row(PROPVALUE, 79, None),
+    Row(ENDEL, 20, None),
 ];
 
-// The row that a record of this type leads to.
-const NEXTS: [u8; 82] = [
-    0, 2, 3, 4, 5, 6, 7, 8, 9, 10, 11, 12, 13, 13, 15, 16, 18, 17, 19, 20, 28, 33, 42, 49, 57, 69,
-    74, 16, 29, 30, 31, 32, 79, 34, 35, 36, 37, 38, 39, 40, 41, 79, 43, 44, 45, 46, 47, 48, 79, 50,
-    51, 52, 53, 54, 55, 56, 79, 58, 59, 60, 61, 62, 63, 64, 65, 66, 67, 68, 79, 70, 71, 72, 73, 79,
-    75, 76, 77, 78, 79, 80, 79, 20,
-];
-
-// The row where a record of another type is tried, and 0 where it is refused.
-const SKIPS: [u8; 82] = [
-    0, 0, 0, 4, 5, 6, 0, 8, 9, 10, 11, 15, 15, 14, 0, 0, 17, 0, 0, 20, 21, 22, 23, 24, 25, 26, 27,
-    0, 29, 30, 0, 0, 0, 34, 35, 0, 0, 38, 39, 40, 41, 0, 43, 44, 0, 48, 47, 48, 0, 50, 51, 0, 55,
-    54, 55, 0, 0, 58, 59, 0, 0, 62, 63, 64, 67, 66, 67, 0, 0, 70, 71, 0, 0, 0, 75, 76, 0, 0, 0, 81,
-    0, 0,
-];
-
-// How many rows there are, with row 0.
-const ROWS: u8 = 82;
-
-// The row of the order that a record of a type leads to from a row; 0, where it must not come there.
-fn follow(at: u8, kind: u8) -> u8
-    ensures { result ≡ follow at kind }
+// The row of the order that a record of a type leads to from a row, if it may come there. Each row says where to look next, so this is a loop.
+fn follow(at: u8, kind: u8) -> Option<u8>
+    ensures { result ≡ row_of (follow at kind) }
 {
-    if ROWS <= at {
-        return 0;
-    }
-    let mut row = at as usize;
-    while row != 0 {
-        if TYPES[row] == kind {
-            return NEXTS[row];
+    let mut row = at;
+    loop {
+        let Row(expected, next, skip) = *ORDER.get(usize::from(row).checked_sub(1)?)?;
+        if expected == kind {
+            return Some(next);
         }
-        row = SKIPS[row] as usize;
+        row = skip?;
     }
-    0
 }
 
 // ---- The data of records, type by type
 
-const NO_DATA: u8 = 0;
+/// What the data are, with the data-type byte of each.
+#[derive(Clone, Copy, Debug, PartialEq, Eq)]
+enum Form {
+    NoData = 0,
+    BitArray = 1,
+    TwoByte = 2,
+    FourByte = 3,
+    EightByteReal = 5,
+    AsciiText = 6,
+}
 
-const BIT_ARRAY: u8 = 1;
+/// How many bytes of data.
+#[derive(Clone, Copy, Debug, PartialEq, Eq)]
+enum Length {
+    /// Exactly so many.
+    Exactly(u8),
+    /// Any number of units of so many bytes, at least so many bytes.
+    Units(u8, u8),
+}
 
-const TWO_BYTE: u8 = 2;
+impl Length {
+    fn allows(self, bytes: usize) -> bool
+        ensures { result ≡ fits_length (length_of self) bytes }
+    {
+        match self {
+            Exactly(size) => bytes == usize::from(size),
+            Units(size, least) => usize::from(least) <= bytes
+                && bytes.is_multiple_of(usize::from(size)),
+        }
+    }
+}
 
-const FOUR_BYTE: u8 = 3;
+/// The data that a type can have.
+#[derive(Clone, Copy, Debug, PartialEq, Eq)]
+struct Data(Form, Length);
 
-const EIGHT_BYTE_REAL: u8 = 5;
-
-const ASCII_TEXT: u8 = 6;
-
-// The data-type byte of each.
-const FORMS: [u8; 60] = [
-    TWO_BYTE,
-    TWO_BYTE,
-    ASCII_TEXT,
-    EIGHT_BYTE_REAL,
-    NO_DATA,
-    TWO_BYTE,
-    ASCII_TEXT,
-    NO_DATA,
-    NO_DATA,
-    NO_DATA,
-    NO_DATA,
-    NO_DATA,
-    NO_DATA,
-    TWO_BYTE,
-    TWO_BYTE,
-    FOUR_BYTE,
-    FOUR_BYTE,
-    NO_DATA,
-    ASCII_TEXT,
-    TWO_BYTE,
-    NO_DATA,
-    NO_DATA,
-    TWO_BYTE,
-    BIT_ARRAY,
-    NO_DATA,
-    ASCII_TEXT,
-    BIT_ARRAY,
-    EIGHT_BYTE_REAL,
-    EIGHT_BYTE_REAL,
-    NO_DATA,
-    NO_DATA,
-    ASCII_TEXT,
-    ASCII_TEXT,
-    TWO_BYTE,
-    TWO_BYTE,
-    ASCII_TEXT,
-    NO_DATA,
-    NO_DATA,
-    BIT_ARRAY,
-    NO_DATA,
-    NO_DATA,
-    NO_DATA,
-    TWO_BYTE,
-    TWO_BYTE,
-    ASCII_TEXT,
-    NO_DATA,
-    TWO_BYTE,
-    FOUR_BYTE,
-    FOUR_BYTE,
-    FOUR_BYTE,
-    NO_DATA,
-    NO_DATA,
-    BIT_ARRAY,
-    NO_DATA,
-    TWO_BYTE,
-    ASCII_TEXT,
-    NO_DATA,
-    TWO_BYTE,
-    ASCII_TEXT,
-    TWO_BYTE,
+/// By the type's number; none of one that the format does not use.
+const DATA: [Option<Data>; 60] = [
+    Some(Data(TwoByte, Exactly(2))), // HEADER
+    Some(Data(TwoByte, Exactly(24))), // BGNLIB
+    Some(Data(AsciiText, Units(1, 0))), // LIBNAME
+    Some(Data(EightByteReal, Exactly(16))), // UNITS
+    Some(Data(NoData, Exactly(0))), // ENDLIB
+    Some(Data(TwoByte, Exactly(24))), // BGNSTR
+    Some(Data(AsciiText, Units(1, 0))), // STRNAME
+    Some(Data(NoData, Exactly(0))), // ENDSTR
+    Some(Data(NoData, Exactly(0))), // BOUNDARY
+    Some(Data(NoData, Exactly(0))), // PATH
+    Some(Data(NoData, Exactly(0))), // SREF
+    Some(Data(NoData, Exactly(0))), // AREF
+    Some(Data(NoData, Exactly(0))), // TEXT
+    Some(Data(TwoByte, Exactly(2))), // LAYER
+    Some(Data(TwoByte, Exactly(2))), // DATATYPE
+    Some(Data(FourByte, Exactly(4))), // WIDTH
+    Some(Data(FourByte, Units(8, 0))), // XY
+    Some(Data(NoData, Exactly(0))), // ENDEL
+    Some(Data(AsciiText, Units(1, 0))), // SNAME
+    Some(Data(TwoByte, Exactly(4))), // COLROW
+    None,
+    Some(Data(NoData, Exactly(0))), // NODE
+    Some(Data(TwoByte, Exactly(2))), // TEXTTYPE
+    Some(Data(BitArray, Exactly(2))), // PRESENTATION
+    None,
+    Some(Data(AsciiText, Units(1, 0))), // STRING
+    Some(Data(BitArray, Exactly(2))), // STRANS
+    Some(Data(EightByteReal, Exactly(8))), // MAG
+    Some(Data(EightByteReal, Exactly(8))), // ANGLE
+    None,
+    None,
+    Some(Data(AsciiText, Units(1, 0))), // REFLIBS
+    Some(Data(AsciiText, Units(1, 0))), // FONTS
+    Some(Data(TwoByte, Exactly(2))), // PATHTYPE
+    Some(Data(TwoByte, Exactly(2))), // GENERATIONS
+    Some(Data(AsciiText, Units(1, 0))), // ATTRTABLE
+    None,
+    None,
+    Some(Data(BitArray, Exactly(2))), // ELFLAGS
+    None,
+    None,
+    None,
+    Some(Data(TwoByte, Exactly(2))), // NODETYPE
+    Some(Data(TwoByte, Exactly(2))), // PROPATTR
+    Some(Data(AsciiText, Units(1, 0))), // PROPVALUE
+    Some(Data(NoData, Exactly(0))), // BOX
+    Some(Data(TwoByte, Exactly(2))), // BOXTYPE
+    Some(Data(FourByte, Exactly(4))), // PLEX
+    Some(Data(FourByte, Exactly(4))), // BGNEXTN
+    Some(Data(FourByte, Exactly(4))), // ENDEXTN
+    None,
+    None,
+    Some(Data(BitArray, Exactly(2))), // STRCLASS
+    None,
+    Some(Data(TwoByte, Exactly(2))), // FORMAT
+    Some(Data(AsciiText, Units(1, 0))), // MASK
+    Some(Data(NoData, Exactly(0))), // ENDMASKS
+    Some(Data(TwoByte, Exactly(2))), // LIBDIRSIZE
+    Some(Data(AsciiText, Units(1, 0))), // SRFNAME
+    Some(Data(TwoByte, Units(6, 6))), // LIBSECUR
 ];
 
-// The least length of its data.
-const LEASTS: [u8; 60] = [
-    2, 24, 0, 16, 0, 24, 0, 0, 0, 0, 0, 0, 0, 2, 2, 4, 0, 0, 0, 4, 0, 0, 2, 2, 0, 0, 2, 8, 8, 0, 0,
-    0, 0, 2, 2, 0, 0, 0, 2, 0, 0, 0, 2, 2, 0, 0, 2, 4, 4, 4, 0, 0, 2, 0, 2, 0, 0, 2, 0, 6,
-];
-
-// Data of so many bytes each; 0, where the length is exactly the least one, and NONE for a type that the format does not use.
-const UNITS_OF: [u8; 60] = [
-    0, 0, 1, 0, 0, 0, 1, 0, 0, 0, 0, 0, 0, 0, 0, 0, 8, 0, 1, 0, NONE, 0, 0, 0, NONE, 1, 0, 0, 0,
-    NONE, NONE, 1, 1, 0, 0, 1, NONE, NONE, 0, NONE, NONE, NONE, 0, 0, 1, 0, 0, 0, 0, 0, NONE, NONE,
-    0, NONE, 0, 1, 0, 0, 1, 6,
-];
-
-// Whether data fits a row of the record table.
-fn fits_as(form: u8, least: u8, unit: u8, byte: u8, length: usize) -> bool
-    ensures { result ≡ fits_as form least unit byte length }
+// The data that a type can have, if the format uses it.
+fn data_of(kind: u8) -> Option<Data>
+    ensures fits_as { (byte length : ℕ) → fits_data result byte length ≡ fits kind byte length }
+    ensures used { is_some result ≡ known kind }
 {
-    if unit == NONE {
-        return false;
-    }
-    if unit == 0 {
-        return (form == byte) & (length == least as usize);
-    }
-    (form == byte) & ((least as usize <= length) & (length % (unit as usize) == 0))
+    *DATA.get(usize::from(kind))?
 }
 
 // Whether a record of a type can have data of a data-type byte and a length.
 fn fits(kind: u8, byte: u8, length: usize) -> bool
     ensures { result ≡ fits kind byte length }
 {
-    if LIBSECUR < kind {
-        return false;
-    }
-    let k = kind as usize;
-    fits_as(FORMS[k], LEASTS[k], UNITS_OF[k], byte, length)
+    data_of(kind).is_some_and(|Data(form, lengths)| form as u8 == byte && lengths.allows(length))
 }
 
 // ---- How a type is treated
 
-// The end; the name of a structure; a structure's end; a path or a reference; an element's layer; vertices; a type that the format does not use;
-// and all the others, which are skipped.
-#[derive(Clone, Copy)]
+/// What is done with a record of a type.
+#[derive(Clone, Copy, Debug, PartialEq, Eq)]
 pub enum Treatment {
+    /// The stream ends.
     End,
+    /// The name of a structure is read.
     Name,
+    /// A structure ends.
     Leave,
+    /// A path or a reference is met.
     Refer,
+    /// The layer of an element is read.
     Layer,
+    /// The vertices of an element are read.
     Vertices,
+    /// The format does not use the type.
     Unknown,
+    /// Any other is passed over.
     Skip,
 }
 
-// By the type's number.
+/// How a type is treated, by its number.
 pub fn treatment_of(kind: u8) -> Treatment
     ensures { result ≡ treatment_of kind }
 {
@@ -377,73 +367,61 @@ pub fn treatment_of(kind: u8) -> Treatment
         PATH..=AREF => Treatment::Refer,
         LAYER => Treatment::Layer,
         XY => Treatment::Vertices,
-        20 | 24 | 29 | 30 | 36 | 37 | 39 | 40 | 41 | 50 | 51 | 53 => Treatment::Unknown,
-        60..=255 => Treatment::Unknown,
+        _ if data_of(kind).is_none() => Treatment::Unknown,
         _ => Treatment::Skip,
     }
 }
 
 // ---- One record
 
-// What bytes begin with: a record that they end in, one with a bad length, or a whole one: its length, its type and its data-type byte.
-#[derive(Clone, Copy)]
-enum Head {
-    Cut,
-    Bad,
-    Whole { size: usize, kind: u8, form: u8 },
+/// A record's head: its length, its type and its data-type byte.
+#[derive(Clone, Copy, Debug, PartialEq, Eq)]
+struct Head {
+    size: usize,
+    kind: u8,
+    form: u8,
 }
 
-// A record where the format's order stands at a row: refused, or good, with its length, its type and the row that it leads to.
-#[derive(Clone, Copy)]
-pub enum Record {
-    Refused { answer: u32 },
-    Good { size: usize, kind: u8, next: u8 },
+/// A good record, where the format's order stands at a row: its length, its type and the row that it leads to.
+#[derive(Clone, Copy, Debug, PartialEq, Eq)]
+pub struct Record {
+    pub size: usize,
+    pub kind: u8,
+    pub next: u8,
 }
 
-// The least length of a record: that of its head.
+/// The least length of a record: that of its head.
 pub const HEAD: usize = 4;
 
-// The head at the start of bytes.
-fn head_of(rest: &[u8]) -> Head
+// The head of the record that bytes begin with; TRUNCATED where they end in it, and RECORD where its length is bad.
+fn head_of(rest: &[u8]) -> Result<Head, Reason>
     ensures { result ≡ head_of rest.now }
 {
     if rest.len() < HEAD {
-        return Head::Cut;
+        return Err(Reason::Truncated);
     }
-    let size = read_u16(rest, 0) as usize;
+    let size = usize::from(u16::read(rest, 0));
     if rest.len() < size {
-        return Head::Cut;
+        return Err(Reason::Truncated);
     }
-    if (size % 2 != 0) | (size < HEAD) {
-        return Head::Bad;
+    if size % 2 != 0 || size < HEAD {
+        return Err(Reason::Record);
     }
-    Head::Whole {
-        size: size,
+    Ok(Head {
+        size,
         kind: rest[2],
         form: rest[3],
-    }
+    })
 }
 
-// The record that bytes begin with, where the order stands at a row.
-pub fn record_of(rest: &[u8], row: u8) -> Record
+/// The record that bytes begin with, where the order stands at a row.
+pub fn record_of(rest: &[u8], row: u8) -> Result<Record, Reason>
     ensures { result ≡ record_of row rest.now }
 {
-    match head_of(rest) {
-        Head::Cut => Record::Refused { answer: TRUNCATED },
-        Head::Bad => Record::Refused { answer: RECORD },
-        Head::Whole { size, kind, form } => {
-            if !fits(kind, form, size - HEAD) {
-                return Record::Refused { answer: RECORD };
-            }
-            let next = follow(row, kind);
-            if next == 0 {
-                return Record::Refused { answer: RECORD };
-            }
-            Record::Good {
-                size: size,
-                kind: kind,
-                next: next,
-            }
-        }
+    let Head { size, kind, form } = head_of(rest)?;
+    if !fits(kind, form, size - HEAD) {
+        return Err(Reason::Record);
     }
+    let next = follow(row, kind).ok_or(Reason::Record)?;
+    Ok(Record { size, kind, next })
 }

@@ -9,9 +9,8 @@ use lib.ListN.{length}
 use lib.IntN.{ℤ}
 use Rattle.plane.specs.Words.{flat_points, rects_of, rect_size, most_rects}
 use Rattle.plane.proofs.Arrays.{length-flat-points}
-use Rattle.entry.specs.declared.Counted.{Counted}
 use Rattle.entry.specs.Checks.{numbers_of, accepted, refused, verdict}
-use Rattle.entry.specs.Entry.{Kept}
+use Rattle.entry.specs.Entry.{Kept, Counted}
 use Rattle.entry.proofs.Verdicts.{AllClear, accepted-clear, lacks-room}
 use Rattle.entry.proofs.Entry.{Numbered, accepts, kept}
 use Rattle.rule.specs.Rows.{LENGTH, MANY, FLAT, RANGE-rects}

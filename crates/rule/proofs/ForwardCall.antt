@@ -19,10 +19,9 @@ use Rattle.entry.specs.Checks.{Check, numbers_of, Verdict, accepted, refused, ve
 use Rattle.entry.specs.Entry.{number_in, Answers, Leaves}
 use Rattle.entry.proofs.Verdicts.{AllClear, verdict-case, refused-exactly, accepted-clear, clear-append, verdict-append, refused-number, lacks-room}
 use Rattle.entry.proofs.Entry.{Numbered, accepts, answers, leaves, refused-is}
-use Rattle.rule.specs.declared.ForwardAnswer.{ForwardAnswer}
 use Rattle.rule.specs.Rows.{ROOM, balance_checks}
 use Rattle.rule.specs.Working.{work_of}
-use Rattle.rule.specs.ForwardCall.{forward_list, forward_checks, ForwardAccepted, forward_answer, sums_told, forward_out, drained, forward_work, ForwardDone, input_checks}
+use Rattle.rule.specs.ForwardCall.{forward_list, forward_checks, ForwardAccepted, forward_answer, sums_told, forward_out, drained, forward_work, ForwardDone, input_checks, ForwardAnswer}
 use Rattle.rule.proofs.Rows.{length-clear, many-clear, work-clear, room-clear, balance-clear}
 use Rattle.rule.proofs.Working.{padded-none, work-length}
 

@@ -16,12 +16,10 @@ use Rattle.entry.specs.Checks.{numbers_of, Verdict, accepted, refused, judged, v
 use Rattle.entry.specs.Entry.{number_in, place_in, Answers, Leaves}
 use Rattle.entry.proofs.Verdicts.{AllClear, accepted-clear}
 use Rattle.entry.proofs.Entry.{Numbered, accepts, answers, leaves}
-use Rattle.rule.specs.declared.StepAnswer.{StepAnswer}
-use Rattle.rule.specs.declared.StepAnswer.TheVariants.{Rectangle, Refused}
 use Rattle.rule.specs.Rule.{Taken}
 use Rattle.rule.specs.Rows.{point_checks}
 use Rattle.rule.specs.Working.{padded, work_of}
-use Rattle.rule.specs.StepCall.{step_taken, step_checks, StepAccepted, step_says, step_answer, step_work, StepDone, step_number, step_place, step_values}
+use Rattle.rule.specs.StepCall.{step_taken, step_checks, StepAccepted, step_says, step_answer, step_work, StepDone, step_number, step_place, step_values, StepAnswer, Rectangle, Refused}
 use Rattle.rule.proofs.Rows.{many-clear, work-clear, drained-clear, points-clear}
 use Rattle.rule.proofs.Working.{padded-length}
 use Rattle.rule.proofs.Steps.{accepted-step}

@@ -3,9 +3,8 @@
 use Rattle.std.specs.Prelude.{ℕ, ◌/◌, ◌%◌, ◌≤◌, ◌≡◌, List, [], ◌∷◌, length, take, ℤ}
 use Rattle.plane.specs.declared.Point.{Point}
 use Rattle.plane.specs.Words.{points_of, flat_points, most_rects, rect_size, rects_of}
-use Rattle.entry.specs.declared.Counted.{Counted}
 use Rattle.entry.specs.Checks.{Check, verdict}
-use Rattle.entry.specs.Entry.{counted, written, Done}
+use Rattle.entry.specs.Entry.{counted, written, Done, Counted}
 use Rattle.rule.specs.Back.{back_list}
 use Rattle.rule.specs.Rows.{LENGTH, MANY, FLAT, RANGE-rects, ROOM, AcceptedRects}
 

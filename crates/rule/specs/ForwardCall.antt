@@ -1,15 +1,17 @@
 -- A call of forward: what it checks and accepts, what it answers, and what each lent array holds afterwards, of the array, the working array
 -- and the output (or their lengths).
-use Rattle.std.specs.Prelude.{ℕ, ◌*◌, ◌/◌, ◌%◌, ◌≤◌, ◌≡◌, cond, List, [], ◌∷◌, ◌++◌, length, take, ℤ, eqb}
+use Rattle.std.specs.Prelude.{ℕ, ◌*◌, ◌/◌, ◌%◌, ◌≤◌, ◌≡◌, cond, List, [], ◌∷◌, ◌++◌, length, take, ℤ, eqb, Result, Ok, Err}
 use Rattle.plane.specs.declared.Point.{Point}
 use Rattle.plane.specs.declared.Rect.{Rect}
 use Rattle.plane.specs.Lists.{sum}
 use Rattle.plane.specs.Words.{most_points, points_of, rect_size, rects_of, flat_rects, area_of}
 use Rattle.plane.specs.Edge.{edge_length}
 use Rattle.plane.specs.Remaining.{Balanced, remaining}
+use Rattle.entry.specs.declared.Refusal.{Refusal}
+use Rattle.entry.specs.Refusals.{number_of}
 use Rattle.entry.specs.Checks.{Check, Verdict, accepted, refused, verdict}
 use Rattle.entry.specs.Entry.{if_accepted, number_in, place_in, written}
-use Rattle.rule.specs.declared.ForwardAnswer.{ForwardAnswer}
+use Rattle.rule.specs.declared.Sums.{Sums}
 use Rattle.rule.specs.Rule.{rule_list}
 use Rattle.rule.specs.Rows.{LENGTH, MANY, WORK, ROOM, balance_checks}
 use Rattle.rule.specs.Working.{work_of}
@@ -22,13 +24,7 @@ points_remaining a = remaining (points_of a)
 abbrev pub forward_list : (a : List ℤ) → List Rect
 forward_list a = rule_list (points_remaining a)
 
--- what is said beside a list: how many rectangles, their area, and the edge of the points that remain
-pub record Sums : Type 0 where
-  pub count : ℕ
-  pub area : ℕ
-  pub edge : ℕ
-
--- of these rectangles, and with this edge
+-- what is said beside a list, of these rectangles and with this edge
 abbrev pub sums_of : List Rect → (edge : ℕ) → Sums
 sums_of rs edge = record { count = length rs; area = sum area_of rs; edge = edge }
 
@@ -51,6 +47,19 @@ pub record ForwardAccepted (a : List ℤ) (work out : ℕ) : Type 0 where
   pub working : 2 * (length a / 2) ≤ work
   pub points : Balanced (points_of a)
   pub room : (forward_sums a).count ≤ out / rect_size
+
+-- what forward answers: answer and place, and the sums
+pub record ForwardAnswer : Type 0 where
+  pub answer : ℕ
+  pub place : ℕ
+  pub count : ℕ
+  pub area : ℕ
+  pub edge : ℕ
+
+-- the answer that a result tells: with sums 0 and place 0, and with a refusal its number and place
+abbrev pub forward_told : Result Sums Refusal → ForwardAnswer
+forward_told (Ok s) = record { answer = 0; place = 0; count = s.count; area = s.area; edge = s.edge }
+forward_told (Err e) = record { answer = number_of e.reason; place = e.place; count = 0; area = 0; edge = 0 }
 
 -- on 0 the sums; on a refusal all but answer and place are 0
 abbrev pub forward_says : Verdict → Sums → ForwardAnswer

@@ -6,9 +6,8 @@ use Rattle.plane.specs.declared.Rect.{Rect}
 use Rattle.plane.specs.Lists.{any, odd, count}
 use Rattle.plane.specs.Words.{most_points, point_at, same, on_row, in_column, point_in_range, rect_at, rect_in_range, flat}
 use Rattle.plane.specs.Edge.{edge_length}
-use Rattle.entry.specs.declared.Counted.{Counted}
 use Rattle.entry.specs.Checks.{Check, whole, each, needs, verdict}
-use Rattle.entry.specs.Entry.{counted}
+use Rattle.entry.specs.Entry.{counted, Counted}
 
 -- ---- The rows
 

@@ -1,11 +1,13 @@
 -- A call of step: what it checks and accepts, what it answers, and what the working array holds afterwards, of the working array and the
 -- count of points.
-use Rattle.std.specs.Prelude.{ℕ, ◌*◌, ◌≤◌, ◌<◌, ◌≡◌, List, [], ◌∷◌, length, take, ℤ, pos}
+use Rattle.std.specs.Prelude.{ℕ, ◌*◌, ◌≤◌, ◌<◌, ◌≡◌, List, [], ◌∷◌, length, take, ℤ, pos, Result, Ok, Err}
+use Rattle.plane.specs.declared.Rect.{Rect}
 use Rattle.plane.specs.Words.{most_points, points_of}
+use Rattle.entry.specs.declared.Refusal.{Refusal}
+use Rattle.entry.specs.Refusals.{number_of}
 use Rattle.entry.specs.Checks.{Check, Verdict, accepted, refused, verdict}
 use Rattle.entry.specs.Entry.{written}
-use Rattle.rule.specs.declared.StepAnswer.{StepAnswer}
-use Rattle.rule.specs.declared.StepAnswer.TheVariants.{Rectangle, Refused}
+use Rattle.rule.specs.declared.Step.{Step}
 use Rattle.rule.specs.Rule.{Taken, step}
 use Rattle.rule.specs.Rows.{MANY, WORK, DRAINED, point_checks, Accepted}
 use Rattle.rule.specs.Working.{padded}
@@ -25,7 +27,17 @@ pub record StepAccepted (work : List ℤ) (n : ℕ) : Type 0 where
   pub some_left : 0 < n
   pub points : Accepted (take n (points_of work))
 
--- a rectangle with the new count of points, or a refusal with its place
+-- what a step answers: a rectangle with the new count of points, or a refusal with its place
+pub data StepAnswer : Type 0 where
+  Rectangle : (rect : Rect) (count : ℕ) → StepAnswer
+  Refused : (number place : ℕ) → StepAnswer
+
+-- the answer that a result tells
+abbrev pub step_told : Result Step Refusal → StepAnswer
+step_told (Ok s) = Rectangle s.rect s.count
+step_told (Err e) = Refused (number_of e.reason) e.place
+
+-- what a step says, of its checks and of what it takes
 abbrev pub step_says : Verdict → Taken → StepAnswer
 step_says accepted t = Rectangle t.rect (length t.left)
 step_says (refused k p) t = Refused k p

@@ -1,21 +1,19 @@
-// What forward and a step answer, as document 01 has it; backward answers what the crate `entry` has. What is said of them is in specs/.
+// What forward and a step give, as document 01 has it; backward gives a count. What is said of them is in specs/.
 #![tactic(auto)]
 
 use plane::Rect;
 
-// Forward's answer. On a refusal all but answer and place are 0.
-#[derive(Clone, Copy)]
-pub struct ForwardAnswer {
-    pub answer: u32,
-    pub place: u64,
+/// What is said beside a list: how many rectangles, their area, and the edge of the points.
+#[derive(Clone, Copy, Debug, PartialEq, Eq)]
+pub struct Sums {
     pub count: usize,
     pub area: u64,
     pub edge: u64,
 }
 
-// A step's answer: a rectangle with the new count of points, or a refusal with its place.
-#[derive(Clone, Copy)]
-pub enum StepAnswer {
-    Rectangle { rect: Rect, count: usize },
-    Refused { answer: u32, place: u64 },
+/// A step's rectangle, and how many points are left.
+#[derive(Clone, Copy, Debug, PartialEq, Eq)]
+pub struct Step {
+    pub rect: Rect,
+    pub count: usize,
 }

@@ -1,4 +1,5 @@
 -- A sweep comes to a live rectangle ahead that ends on its row: the rectangle is given, and its two ends are put.
+use Rattle.std.specs.Prelude.{Some}
 use mathlib.Core.Path.{◌≡◌, refl, ap}
 use mathlib.Core.Logic.{◌⊎◌, inl, inr, ⊎_elim}
 use Prim.Native.Nat.{ℕ, ◌+◌, ◌<◌}
@@ -25,12 +26,12 @@ use Rattle.live.proofs.Numbered.{rect-no-solid}
 use Rattle.live.proofs.Shown.{live-wide, live-far}
 use Rattle.live.proofs.Crossing.{Reached, carried-far, cuts, cut-at-carried, cut-at-point, cut-elsewhere}
 use Rattle.sweep.specs.declared.Sweep.{Sweep}
-use Rattle.sweep.specs.Inner.{carried_point, nearer, after_point, with_carried, taken_from, carrying, left_end, end_put, end_put_work, cut_to, cut_work, ended_box, rest_of, passed_in, Underway, to_come, live_sum, Gives}
+use Rattle.sweep.specs.Inner.{nearer, after_point, with_carried, taken_from, with_opened, closed, carrying, end_put, end_put_work, cut_to, cut_work, ended_box, rest_of, passed_in, Underway, to_come, live_sum, Gives}
 use Rattle.sweep.proofs.Past.{kept-all}
 use Rattle.sweep.proofs.Places.{first-on-row}
 use Rattle.sweep.proofs.Going.{there-one, there-none, there-most, put-ends}
 use Rattle.sweep.proofs.Taking.{point-less}
-use Rattle.sweep.proofs.Meeting.{Comes, nearer-least, nearer-one, others, here, stands, is_live}
+use Rattle.sweep.proofs.Meeting.{Comes, reached, nearer-least, nearer-one, others, here, stands, is_live}
 
 -- ---- The rectangle of one that ends
 
@@ -40,26 +41,30 @@ box-is r x x' y y' left right_is low high = rw (left, right_is, low, ← high) (
 
 -- ---- Where the next one ahead ends
 
-module _ {qs : List Point} {work : List ℤ} {z : Sweep} {t : Point} {k : Live} (c : Comes qs work z t k) (e : lt_z (nearer z t).x k.left ≡ false) (over : (eq_z z.opened far ≡ false) ⊎ (lt_z (nearer z t).x k.right ≡ true)) where
+module _ {qs : List Point} {work : List ℤ} {z : Sweep} {t : ℤ} {k : Live} (c : Comes qs work z t) (e : reached c ≡ Some k) (over : (eq_z z.opened far ≡ false) ⊎ (lt_z (nearer z t) k.right ≡ true)) where
   -- the sweep is under way
   u : Underway qs work z far
   u = c.underway
 
   -- the point is where the next one of the row is
-  at : t.x ≡ next_on z.row (rest_of qs z)
+  at : t ≡ next_on z.row (rest_of qs z)
   at = c.at_next
 
+  -- the end is not left of it
+  not-left : lt_z (nearer z t) k.left ≡ false
+  not-left = (here c e).2
+
   -- it is reached
-  reached : Reached z.opened (next_on z.row (rest_of qs z)) z.carried k
-  reached = ⊎_elim (λ (o : eq_z z.opened far ≡ false). inl o) (λ (f : lt_z (nearer z t).x k.right ≡ true). inr (falls f (nearer-one c))) over
+  reaches : Reached z.opened (next_on z.row (rest_of qs z)) z.carried k
+  reaches = ⊎_elim (λ (o : eq_z z.opened far ≡ false). inl o) (λ (f : lt_z (nearer z t) k.right ≡ true). inr (falls f (nearer-one c))) over
     where
-      falls : lt_z (nearer z t).x k.right ≡ true → ((nearer z t).x ≡ t.x) ⊎ ((nearer z t).x ≡ z.carried) → (lt_z (next_on z.row (rest_of qs z)) k.right ≡ true) ⊎ (lt_z z.carried k.right ≡ true)
+      falls : lt_z (nearer z t) k.right ≡ true → (nearer z t ≡ t) ⊎ (nearer z t ≡ z.carried) → (lt_z (next_on z.row (rest_of qs z)) k.right ≡ true) ⊎ (lt_z z.carried k.right ≡ true)
       falls f (inl d) = inl (omega (order, at))
       falls f (inr d) = inr (omega order)
 
   -- so the row ends it
   ends-here : end_of qs k ≡ z.row
-  ends-here = let l = nearer-least c in cuts u.ready.points (stands c e) (omega (order, at)) (omega order) (rw (← at) c.end-waits) reached
+  ends-here = let l = nearer-least c in cuts u.ready.points (stands c e) (omega (order, at, not-left)) (omega (order, not-left)) (rw (← at) c.end-waits) reaches
 
   -- its number is of the list
   listed : number k < length (rule_list qs)
@@ -97,11 +102,11 @@ module _ {qs : List Point} {work : List ℤ} {z : Sweep} {t : Point} {k : Live} 
     same-given : y.given ≡ z.given
 
   -- its left end goes with a point there
-  cut-point : lt_z t.x z.carried ≡ true → eq_z t.x k.left ≡ true → Cut (carrying (after_point z) k) far
+  cut-point : lt_z t z.carried ≡ true → eq_z t k.left ≡ true → Cut (carrying (after_point z) k) far
   cut-point first same = let f = first-on-row z.row (rest_of qs z) (omega (order, at, right_near)) in go f.0 f.1 f.2 f.3 f.4
     where
       none : z.carried ≡ far
-      none = carried-far u.ready.points (stands c e) (omega order) (omega order)
+      none = carried-far u.ready.points (stands c e) (omega (order, not-left)) (omega (order, not-left))
 
       go : (p : Point) (later : List Point) → rest_of qs z ≡ p ∷ later → p.y ≡ z.row → p.x ≡ next_on z.row (rest_of qs z) → Cut (carrying (after_point z) k) far
       go p later d y x =
@@ -150,12 +155,12 @@ module _ {qs : List Point} {work : List ℤ} {z : Sweep} {t : Point} {k : Live} 
       }
 
   -- or is in hand
-  cut-in-hand : eq_z (nearer z t).x k.left ≡ false → Cut (carrying z k) k.left
+  cut-in-hand : eq_z (nearer z t) k.left ≡ false → Cut (carrying z k) k.left
   cut-in-hand apart =
       let i = (here c e).0 in
       let fit = u.passed-within in
       let l = nearer-least c in
-      let none : z.carried ≡ far = carried-far u.ready.points (stands c e) (omega order) (omega order) in
+      let none : z.carried ≡ far = carried-far u.ready.points (stands c e) (omega (order, not-left)) (omega (order, not-left)) in
       let most = there-most k.right in
       let w : Sweeping qs (stand (rest_of qs z) z.row far z.opened far z.given (passed_in work z) (k ∷ others c)) = rw none at (stands c e) in
       record {
@@ -166,7 +171,7 @@ module _ {qs : List Point} {work : List ℤ} {z : Sweep} {t : Point} {k : Live} 
           ahead_within = omega arith;
           carried-near = omega (order, right_near);
           room = let r = u.room in omega (arith, there-most k.left);
-          sweeping = cut-elsewhere u.ready.points w (omega (order, at)) ends-here;
+          sweeping = cut-elsewhere u.ready.points w (omega (order, at, not-left)) ends-here;
         };
         less = omega arith;
         gone = head-gone;
@@ -184,24 +189,32 @@ module _ {qs : List Point} {work : List ℤ} {z : Sweep} {t : Point} {k : Live} 
     balance = λ w. omega (arith, cut.gone w, ap (λ (g : ℕ). sum_below g w) cut.same-given);
   }
 
+  -- an end that is put, and the right end carried, are told in either order
+  either-order : carrying (end_put z k.left) k ≡ end_put (carrying z k) k.left
+  either-order = go (eq_z z.opened far)
+    where
+      go : (t : Bool) → carrying (cond t (with_opened z k.left) (closed z)) k ≡ cond t (with_opened (carrying z k) k.left) (closed (carrying z k))
+      go true = refl
+      go false = refl
+
   -- it is given
   pub gives_cut : Gives qs z work (ended_box z k) (number k) (cut_to z t k) (cut_work work z t k)
-  gives_cut = go (eq_z (nearer z t).x k.left) refl
+  gives_cut = go (eq_z (nearer z t) k.left) refl
     where
-      at_left : (b : Bool) → lt_z t.x z.carried ≡ b → eq_z (cond b t (carried_point z)).x k.left ≡ true → Gives qs z work (ended_box z k) (number k) (carrying (cond b (after_point z) (with_carried z far)) k) work
+      at_left : (b : Bool) → lt_z t z.carried ≡ b → eq_z (cond b t z.carried) k.left ≡ true → Gives qs z work (ended_box z k) (number k) (carrying (cond b (after_point z) (with_carried z far)) k) work
       at_left true f d = given (cut-point f d)
       at_left false f d = given (cut-carried d)
 
-      go : (b : Bool) → eq_z (nearer z t).x k.left ≡ b → let y = cond b (carrying (taken_from z t) k) (end_put (carrying z k) (left_end z k)) in Gives qs z work (ended_box z k) (number k) y (cond b work (end_put_work work (carrying z k) (left_end z k)))
-      go true d = at_left (lt_z t.x z.carried) refl d
+      go : (b : Bool) → eq_z (nearer z t) k.left ≡ b → Gives qs z work (ended_box z k) (number k) (carrying (cond b (taken_from z t) (end_put z k.left)) k) (cond b work (end_put_work work z k.left))
+      go true d = at_left (lt_z t z.carried) refl d
       go false d =
           let cut = cut-in-hand d in
-          let p = put-ends (left_end z k) cut.going (omega (order, right_near)) in
-          record {
+          let p = put-ends k.left cut.going (omega (order, right_near)) in
+          rw either-order (record {
             kept = p.kept;
             underway = p.underway;
             less = rw p.as-much cut.less;
             in_list = listed;
             rect-is = rect-is;
             balance = λ w. omega (arith, p.balance w, cut.gone w, ap (λ (g : ℕ). sum_below g w) cut.same-given);
-          }
+          })

@@ -71,9 +71,9 @@ pub record Put (qs : List Point) (z : Sweep) (before : List ℤ) (at : Sweep) (a
   pub balance : (w : ℕ → ℕ) → live_sum qs after at w + sum_below z.given w ≡ live_sum qs before z w + sum_below at.given w
   pub kept : KeptPast (2 * length qs) before after
 
-module _ {qs : List Point} {work : List ℤ} {z : Sweep} (v : Point) (g : Underway qs work z v.x) (e : eq_z v.x far ≡ false) where
+module _ {qs : List Point} {work : List ℤ} {z : Sweep} (v : ℤ) (g : Underway qs work z v) (e : eq_z v far ≡ false) where
   -- it opens a rectangle
-  put-opens : eq_z z.opened far ≡ true → Put qs z work (with_opened z v.x) work
+  put-opens : eq_z z.opened far ≡ true → Put qs z work (with_opened z v) work
   put-opens d = record {
     underway = record {
       ready = g.ready;
@@ -81,8 +81,8 @@ module _ {qs : List Point} {work : List ℤ} {z : Sweep} (v : Point) (g : Underw
       passed-within = g.passed-within;
       ahead_within = g.ahead_within;
       carried-near = g.carried-near;
-      room = let r = g.room in omega (arith, there-one v.x e, there-none z.opened d, there-none far (eq_z-refl far));
-      sweeping = opens g.ready.points (subst (λ o. Sweeping qs (stand (rest_of qs z) z.row z.carried o v.x z.given (passed_in work z) (ahead_in qs work z))) (eq_z-is z.opened far d) g.sweeping) e;
+      room = let r = g.room in omega (arith, there-one v e, there-none z.opened d, there-none far (eq_z-refl far));
+      sweeping = opens g.ready.points (subst (λ o. Sweeping qs (stand (rest_of qs z) z.row z.carried o v z.given (passed_in work z) (ahead_in qs work z))) (eq_z-is z.opened far d) g.sweeping) e;
     };
     as-much = refl;
     balance = λ w. refl;
@@ -92,7 +92,7 @@ module _ {qs : List Point} {work : List ℤ} {z : Sweep} (v : Point) (g : Underw
   -- or closes the one that is open
   put-closes : eq_z z.opened far ≡ false → Put qs z work (closed z) (put_live work z.passed (new_live z v))
   put-closes d =
-      let u = put-room v.x g e in
+      let u = put-room v g e in
       let within = g.ahead_within in
       let working = g.ready.working in
       let new : Live = new_live z v in
@@ -108,7 +108,7 @@ module _ {qs : List Point} {work : List ℤ} {z : Sweep} (v : Point) (g : Underw
           passed-within = omega arith;
           ahead_within = within;
           carried-near = g.carried-near;
-          room = let r = g.room in omega (arith, there-one v.x e, there-one z.opened d, there-none far (eq_z-refl far));
+          room = let r = g.room in omega (arith, there-one v e, there-one z.opened d, there-none far (eq_z-refl far));
           sweeping = rw (is-passed, is-ahead) c.1;
         };
         as-much = refl;
@@ -120,6 +120,6 @@ module _ {qs : List Point} {work : List ℤ} {z : Sweep} (v : Point) (g : Underw
   pub put-ends : Put qs z work (end_put z v) (end_put_work work z v)
   put-ends = go (eq_z z.opened far) refl
     where
-      go : (t : Bool) → eq_z z.opened far ≡ t → Put qs z work (cond t (with_opened z v.x) (closed z)) (cond t work (put_live work z.passed (new_live z v)))
+      go : (t : Bool) → eq_z z.opened far ≡ t → Put qs z work (cond t (with_opened z v) (closed z)) (cond t work (put_live work z.passed (new_live z v)))
       go true d = put-opens d
       go false d = put-closes d

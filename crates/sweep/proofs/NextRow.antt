@@ -1,4 +1,6 @@
 -- A sweep whose row is done turns to the next point's row, or ends where no point is to come.
+use Rattle.std.specs.Prelude.{Option, Some, None}
+use Rattle.std.proofs.lemmas.Option.{none-some, same_Some}
 use mathlib.Core.Path.{◌≡◌, refl, sym, ap, subst, ◌∙◌}
 use mathlib.Core.Logic.{◌⊎◌, inl, inr}
 use Prim.Native.Nat.{ℕ, zero, suc, ◌+◌, ◌-◌, ◌<◌, ◌≤◌}
@@ -139,36 +141,33 @@ module _ {qs : List Point} {work : List ℤ} {z : Sweep} (u : Underway qs work z
 -- ---- Nothing is to come on the row
 
 -- a sweep under way, with the next point p and t that of the row, has neither t nor a right end to put
-pub record RowDone (qs : List Point) (work : List ℤ) (z : Sweep) (p t : Point) : Type 0 where
+pub record RowDone (qs : List Point) (work : List ℤ) (z : Sweep) (p : Option Point) (t : ℤ) : Type 0 where
   pub underway : Underway qs work z far
   pub next-is : p ≡ next_of (rest_of qs z)
-  pub at_next : t.x ≡ next_on z.row (rest_of qs z)
-  pub none-waits : eq_z t.x z.carried ≡ true
-  pub none-there : eq_z t.x far ≡ true
+  pub at_next : t ≡ next_on z.row (rest_of qs z)
+  pub none-waits : eq_z t z.carried ≡ true
+  pub none-there : eq_z t far ≡ true
 
-module _ {qs : List Point} {work : List ℤ} {z : Sweep} {p t : Point} (d : RowDone qs work z p t) where
+module _ {qs : List Point} {work : List ℤ} {z : Sweep} {p : Option Point} {t : ℤ} (d : RowDone qs work z p t) where
   -- none is carried
   none : eq_z z.carried far ≡ true
   none = let same = d.none-waits in let far-off = d.none-there in omega order
 
   -- where there is a next point, the sweep turns to its row
-  pub turns-on : eq_z p.x far ≡ false → {r : Sweep} {after : List ℤ} → Turned p z work r after → GoesOn qs z work r after
-  turns-on some {r} {after} turned = go (rest_of qs z) refl
+  pub turns-on : {q : Point} → p ≡ Some q → {r : Sweep} {after : List ℤ} → Turned q z work r after → GoesOn qs z work r after
+  turns-on {q} some {r} {after} turned = go (rest_of qs z) refl
     where
       go : (rest : List Point) → rest_of qs z ≡ rest → GoesOn qs z work r after
-      go [] e = let f : p.x ≡ far = ap (λ (q : Point). q.x) (d.next-is ∙ ap next_of e) in absurd (omega order)
-      go (q ∷ later) e =
-          let f : p ≡ q = d.next-is ∙ ap next_of e in
-          let off : eq_z p.y z.row ≡ false = by-no (eq_z p.y z.row) (λ on. let n : t.x ≡ p.x = d.at_next ∙ rw (e, ← f, on) in let gone = d.none-there in absurd (omega order)) in
-          goes-turned d.underway p later (e ∙ ap (λ (h : Point). h ∷ later) (sym f)) off none turned
+      go [] e = absurd (none-some q (sym (d.next-is ∙ ap next_of e) ∙ some))
+      go (p' ∷ later) e =
+          let f : q ≡ p' = same_Some q p' (sym some ∙ d.next-is ∙ ap next_of e) in
+          let off : eq_z q.y z.row ≡ false = by-no (eq_z q.y z.row) (λ on. let n : t ≡ q.x = d.at_next ∙ rw (e, ← f, on) in let l = point-far q (d.underway.sweeping.rest-range q (subst (λ (rest : List Point). In q rest) (sym e) (head f))) in let gone = d.none-there in absurd (omega order)) in
+          goes-turned d.underway q later (e ∙ ap (λ (h : Point). h ∷ later) (sym f)) off none turned
 
   -- where there is none, it ends
-  pub stops : eq_z p.x far ≡ true → AllGiven qs z work work
+  pub stops : p ≡ None → AllGiven qs z work work
   stops gone = go (rest_of qs z) refl
     where
       go : (rest : List Point) → rest_of qs z ≡ rest → AllGiven qs z work work
       go [] e = goes-no-further d.underway e none
-      go (q ∷ later) e =
-          let f : p.x ≡ q.x = ap (λ (h : Point). h.x) (d.next-is ∙ ap next_of e) in
-          let l = point-far q (d.underway.sweeping.rest-range q (subst (λ (rest : List Point). In q rest) (sym e) (head refl))) in
-          absurd (omega order)
+      go (q ∷ later) e = absurd (none-some q (sym gone ∙ d.next-is ∙ ap next_of e))

@@ -2,8 +2,8 @@
 use Prim.Native.Nat.{ℕ, ◌+◌, ◌-◌, ◌*◌, ◌≤◌}
 use native.Mathlib.Omega.{arith}
 use mathlib.Core.Path.{◌≡◌, refl, sym, ap, ◌∙◌}
-use mathlib.Core.List.{List, []}
-use lib.ListN.{drop, length-replicate}
+use mathlib.Core.List.{List, [], ◌++◌}
+use lib.ListN.{drop, replicate, length-replicate}
 use lib.Seq.{drop-drop}
 use lib.IntN.{ℤ, pos}
 use Rattle.plane.specs.declared.Rect.{Rect}
@@ -11,7 +11,7 @@ use Rattle.plane.specs.Words.{rect_size}
 use Rattle.rule.specs.Working.{work_of}
 use Rattle.rule.proofs.Working.{padded-none}
 use Rattle.live.specs.declared.Live.{Live}
-use Rattle.sweep.specs.Inner.{put_four, put_rect, live_size, put_live, KeptPast, zeroed}
+use Rattle.sweep.specs.Inner.{put_four, put_rect, live_size, put_live, KeptPast}
 use Rattle.sweep.proofs.Lives.{length-put, drop-put}
 
 -- an array is kept as it was
@@ -42,6 +42,6 @@ pub kept-live : (n : ℕ) (a : List ℤ) (i : ℕ) (k : Live) → live_size * (i
 kept-live n a i k h = kept-four n a (live_size * i) k.left k.right k.row k.place (omega arith)
 
 -- with its start zeroed it holds no points
-pub kept-drained : {m n : ℕ} {before after : List ℤ} → m ≤ n → KeptPast (2 * m) before after → zeroed (2 * n) after ≡ work_of n [] before
+pub kept-drained : {m n : ℕ} {before after : List ℤ} → m ≤ n → KeptPast (2 * m) before after → replicate (2 * n) (pos 0) ++ drop (2 * n) after ≡ work_of n [] before
 unfolding work_of
-kept-drained {m} {n} h k = let p = (kept-further {n = 2 * n} (omega arith) k).same-past in rw (padded-none n, length-replicate (2 * n) (pos 0), p)
+kept-drained {m} {n} h k = rw (padded-none n, length-replicate (2 * n) (pos 0), (kept-further {n = 2 * n} (omega arith) k).same-past) refl

@@ -1,27 +1,28 @@
 -- The live rectangles that a sweep has passed and those ahead, and the point that is next: what stands where, and what one put at a place
 -- changes.
 use mathlib.Core.Path.{◌≡◌, refl, sym}
+use Rattle.std.specs.Prelude.{Option, Some, None, slice_get}
+use Rattle.std.proofs.lemmas.Option.{none-some, same_Some}
 use mathlib.Core.Logic.{◌⊎◌, inl, inr}
-use Prim.Native.Nat.{ℕ, ◌+◌, ◌*◌, ◌<◌, ◌≤◌}
+use Prim.Native.Nat.{ℕ, zero, suc, ◌+◌, ◌*◌, ◌<◌, ◌≤◌}
 use native.Mathlib.Numerals.{add-one}
 use native.Mathlib.Omega.{arith}
-use mathlib.Core.Bool.{Bool, true, false, cond}
+use mathlib.Core.Bool.{Bool, true, false, cond, ◌&&◌}
 use mathlib.Core.List.{List, [], ◌∷◌, ◌++◌}
-use lib.ListN.{length, get_or, take, drop, drop_of_length-le, length-map}
-use lib.Seq.{drop-cons, take-suc-set}
+use lib.ListN.{length, take, drop}
+use lib.Seq.{take-suc-set}
 use lib.IntN.{ℤ}
+use lib.Signed.{le_z, lt_z}
 use lib.Dec.{ltb}
 use borrow.Author.Tests.{ltb-true, ltb-false}
 use Rattle.plane.specs.declared.Point.{Point}
-use Rattle.plane.specs.Words.{origin, eq_z, points_of, point_at}
-use Rattle.plane.proofs.Bools.{clash, cond-case}
-use Rattle.plane.proofs.Order.{eq_z-is, eq_z-refl}
-use Rattle.plane.proofs.Maps.{map_at}
+use Rattle.plane.specs.Words.{eq_z}
+use Rattle.plane.proofs.Bools.{clash}
+use Rattle.plane.proofs.Order.{order, eq_z-is, eq_z-refl}
 use Rattle.plane.proofs.Places.{stretch-next, stretch-none, stretch-set}
 use Rattle.live.specs.declared.Live.{Live}
 use Rattle.live.specs.Stands.{far, next_on}
-use Rattle.sweep.specs.declared.Sweep.{Sweep}
-use Rattle.sweep.specs.Inner.{live_size, lives_of, zero_live, live_at, put_live, KeptPast, far_point, far_live, next_point, next_live, on_row_of, swept_points}
+use Rattle.sweep.specs.Inner.{live_size, lives_of, zero_live, live_at, put_live, KeptPast, x_on, reached_at}
 use Rattle.sweep.proofs.Lives.{length-lives, lives-put}
 use Rattle.sweep.proofs.Past.{kept-live}
 
@@ -45,48 +46,56 @@ live-put work i k many past h w f =
 
 -- ---- The next one ahead
 
--- there is none, or it is the first of those ahead
-pub meets : (work : List ℤ) (i many : ℕ) → live_size * many ≤ length work → ((next_live work i many ≡ far_live) × (drop i (take many (lives_of work)) ≡ [])) ⊎ ((i < many) × (drop i (take many (lives_of work)) ≡ next_live work i many ∷ drop (i + 1) (take many (lives_of work))))
-meets work i many w = go (ltb i many) refl
-  where
-    l : List Live
-    l = lives_of work
+module _ (work : List ℤ) (i many : ℕ) (x : ℤ) (w : live_size * many ≤ length work) where
+  -- those ahead, and those after the next one
+  abbrev lives : List Live
+  lives = drop i (take many (lives_of work))
 
-    go : (t : Bool) → ltb i many ≡ t → let k = cond t (live_at work i) far_live in ((k ≡ far_live) × (drop i (take many l) ≡ [])) ⊎ ((i < many) × (drop i (take many l) ≡ k ∷ drop (i + 1) (take many l)))
-    go true e = let h = ltb-true i many e in inr (h, stretch-next l i many zero_live h (omega (arith, length-lives work)))
-    go false e = inl (refl, stretch-none l i many (ltb-false i many e))
+  abbrev others : List Live
+  others = drop (i + 1) (take many (lives_of work))
+
+  -- where it is there, it is the first of those ahead
+  first-ahead : i < many → lives ≡ live_at work i ∷ others
+  first-ahead h = stretch-next (lives_of work) i many zero_live h (omega (arith, length-lives work))
+
+  -- where none is reached, none is ahead, or x is left of the first one
+  pub none-reached : reached_at work i many x ≡ None → (lives ≡ []) ⊎ ((lives ≡ live_at work i ∷ others) × (lt_z x (live_at work i).left ≡ true))
+  none-reached e = go (ltb i many) refl (le_z (live_at work i).left x) refl e
+    where
+      go : (t : Bool) → ltb i many ≡ t → (u : Bool) → le_z (live_at work i).left x ≡ u → cond (t && u) (Some (live_at work i)) None ≡ None → (lives ≡ []) ⊎ ((lives ≡ live_at work i ∷ others) × (lt_z x (live_at work i).left ≡ true))
+      go false d u f n = inl (stretch-none (lives_of work) i many (ltb-false i many d))
+      go true d false f n = inr (first-ahead (ltb-true i many d), omega order)
+      go true d true f n = absurd (none-some (live_at work i) (sym n))
+
+  -- one that is reached is the first of those ahead, and x is not left of it
+  pub one-reached : {k : Live} → reached_at work i many x ≡ Some k → (i < many) × (lives ≡ k ∷ others) × (lt_z x k.left ≡ false)
+  one-reached {k} e = go (ltb i many) refl (le_z (live_at work i).left x) refl e
+    where
+      go : (t : Bool) → ltb i many ≡ t → (u : Bool) → le_z (live_at work i).left x ≡ u → cond (t && u) (Some (live_at work i)) None ≡ Some k → (i < many) × (lives ≡ k ∷ others) × (lt_z x k.left ≡ false)
+      go false d u f n = absurd (none-some k n)
+      go true d false f n = absurd (none-some k n)
+      go true d true f n =
+          let h = ltb-true i many d in
+          rw (← same_Some (live_at work i) k n) (h, first-ahead h, omega order)
 
 -- ---- The next point
 
--- the first of some points, or a far one
-abbrev pub next_of : List Point → Point
-next_of [] = far_point
-next_of (p ∷ ps) = p
+-- the first of some points, if there is one
+abbrev pub next_of : List Point → Option Point
+next_of [] = None
+next_of (p ∷ ps) = Some p
 
 -- the next point is the first of those to come
-pub next-is-first : (a : List ℤ) (order : List ℕ) (i : ℕ) → next_point a order i ≡ next_of (drop i (swept_points a order))
-next-is-first a order i = go (ltb i (length order)) refl
-  where
-    qs : List Point
-    qs = swept_points a order
-
-    many : length qs ≡ length order
-    many = length-map order (point_at (points_of a))
-
-    go : (t : Bool) → ltb i (length order) ≡ t → cond t (point_at (points_of a) (get_or order i 0)) far_point ≡ next_of (drop i qs)
-    go true e =
-        let h = ltb-true i (length order) e in
-        rw (drop-cons qs i origin (omega (arith, many))) (sym (map_at (point_at (points_of a)) order i 0 origin h))
-    go false e = let h = ltb-false i (length order) e in rw (drop_of_length-le qs {i = i} (omega (arith, many)))
+pub next-is-first : (qs : List Point) (i : ℕ) → slice_get qs i ≡ next_of (drop i qs)
+next-is-first [] zero = refl
+next-is-first [] (suc i) = refl
+next-is-first (q ∷ qs) zero = refl
+next-is-first (q ∷ qs) (suc i) = next-is-first qs i
 
 -- on the row it is where the next point of the row is
-pub on-row-at : (z : Sweep) (rest : List Point) → (on_row_of z (next_of rest)).x ≡ next_on z.row rest
-on-row-at z [] = cond-case (λ (t : Point). t.x ≡ far) (eq_z far z.row) (λ e. refl) (λ e. refl)
-on-row-at z (p ∷ rest) = go (eq_z p.y z.row)
-  where
-    go : (t : Bool) → (cond t p far_point).x ≡ cond t p.x far
-    go true = refl
-    go false = refl
+pub on-row-at : (row : ℤ) (rest : List Point) → x_on row (next_of rest) ≡ next_on row rest
+on-row-at row [] = refl
+on-row-at row (p ∷ rest) = refl
 
 -- a point to come on the row is the first of those to come
 pub first-on-row : (row : ℤ) (rest : List Point) → eq_z (next_on row rest) far ≡ false → (p : Point) × (later : List Point) × (rest ≡ p ∷ later) × (p.y ≡ row) × (p.x ≡ next_on row rest)

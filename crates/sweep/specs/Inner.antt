@@ -1,28 +1,33 @@
 -- What the private functions speak of. No caller needs these definitions: the promise is in the crate `rule`.
-use Rattle.std.specs.Prelude.{ℕ, ◌+◌, ◌-◌, ◌*◌, ◌/◌, ◌<◌, ◌≤◌, ◌≡◌, ◌⊎◌, Bool, true, not, cond, List, [], ◌++◌, length, get_or, take, drop, set, replicate, ℤ, pos, ◌-ℤ◌, ltb}
+use Rattle.std.specs.Prelude.{ℕ, ◌+◌, ◌-◌, ◌*◌, ◌/◌, ◌<◌, ◌≤◌, ◌≡◌, ◌⊎◌, Bool, true, not, cond, List, [], ◌++◌, length, get_or, take, drop, set, ℤ, pos, ◌-ℤ◌, ltb, ◌&&◌, Option, Some, None, Result, Ok, Err}
 use Rattle.std.specs.Int.Signed.{le_z, lt_z}
 use Rattle.plane.specs.declared.Point.{Point}
 use Rattle.plane.specs.declared.Rect.{Rect}
-use Rattle.plane.specs.Lists.{bit, sum, sum_below, at_start}
-use Rattle.plane.specs.Words.{eq_z, same, points_of, rect_size, fours_of, flat_rects, rising, point_at, most_points}
+use Rattle.plane.specs.Lists.{bit, sum, sum_below}
+use Rattle.plane.specs.Words.{eq_z, same, points_of, rect_size, fours_of, rising, point_at, most_points}
 use Rattle.plane.specs.Swaps.{off_pairs}
 use Rattle.ordering.specs.Orders.{row_order, points_at}
+use Rattle.entry.specs.declared.Refusal.{Refusal}
+use Rattle.entry.specs.Refusals.{number_of}
 use Rattle.entry.specs.Checks.{accepted, verdict}
-use Rattle.rule.specs.declared.ForwardAnswer.{ForwardAnswer}
 use Rattle.rule.specs.Rule.{rule_list}
-use Rattle.rule.specs.ForwardCall.{forward_says, sums_of, forward_list, input_checks}
+use Rattle.rule.specs.ForwardCall.{forward_list, input_checks}
 use Rattle.rule.specs.Rows.{Accepted}
 use Rattle.live.specs.declared.Live.{Live}
 use Rattle.live.specs.Stands.{far, first_row, number, rect_no, stand, next_on, Stand, Sweeping}
+use Rattle.sweep.specs.declared.Points.{Points}
 use Rattle.sweep.specs.declared.Sweep.{Sweep}
-use Rattle.sweep.specs.declared.Move.{Move}
-use Rattle.sweep.specs.declared.Move.TheVariants.{Onward, Rectangle, Refused}
+use Rattle.sweep.specs.declared.Placed.{Placed}
 
 -- ---- Rectangles in an array
 
 -- an array with four numbers put from a place on
 abbrev pub put_four : List ℤ → (from : ℕ) → (p q r s : ℤ) → List ℤ
 put_four a from p q r s = set (set (set (set a from p) (from + 1) q) (from + 2) r) (from + 3) s
+
+-- an array with these four put at place i, four by four
+abbrev pub put_at : List ℤ → ℕ → (four : List ℤ) → List ℤ
+put_at a i four = put_four a (rect_size * i) (get_or four 0 (pos 0)) (get_or four 1 (pos 0)) (get_or four 2 (pos 0)) (get_or four 3 (pos 0))
 
 -- an array with a rectangle put at place i
 abbrev pub put_rect : List ℤ → ℕ → Rect → List ℤ
@@ -55,65 +60,20 @@ pub record KeptPast (n : ℕ) (before after : List ℤ) : Type 0 where
   pub same_length : length after ≡ length before
   pub same-past : drop n after ≡ drop n before
 
--- an array with its first n numbers set to 0
-abbrev pub zeroed : ℕ → List ℤ → List ℤ
-zeroed n a = at_start (replicate n (pos 0)) a
-
 -- ---- What is next
 
--- no point
-abbrev pub far_point : Point
-far_point = record { x = far; y = far }
+-- x of a point if it is on the row, and far of any other or of none
+abbrev pub x_on : (row : ℤ) → Option Point → ℤ
+x_on row None = far
+x_on row (Some p) = cond (eq_z p.y row) p.x far
 
--- no live rectangle
-abbrev pub far_live : Live
-far_live = record { left = far; right = far; row = pos 0; place = pos 0 }
+-- the live rectangle at a place below an end, unless x is left of it
+abbrev pub reached_at : (work : List ℤ) (i end : ℕ) (x : ℤ) → Option Live
+reached_at work i end x = cond (ltb i end && le_z (live_at work i).left x) (Some (live_at work i)) None
 
--- the point with a number in order, if there is one
-abbrev pub next_point : (a : List ℤ) (order : List ℕ) → ℕ → Point
-next_point a order i = cond (ltb i (length order)) (point_at (points_of a) (get_or order i 0)) far_point
-
--- the live rectangle at a place below an end, if there is one
-abbrev pub next_live : (work : List ℤ) (i end : ℕ) → Live
-next_live work i end = cond (ltb i end) (live_at work i) far_live
-
--- the point if it is on the row
-abbrev pub on_row_of : Sweep → Point → Point
-on_row_of z p = cond (eq_z p.y z.row) p far_point
-
--- the right end carried
-abbrev pub carried_point : Sweep → Point
-carried_point z = record { x = z.carried; y = z.row }
-
--- the nearer of a point and the right end carried
-abbrev pub nearer : Sweep → Point → Point
-nearer z t = cond (lt_z t.x z.carried) t (carried_point z)
-
--- ---- One thing changed of where the sweep stands
-
--- after its next point
-abbrev pub after_point : Sweep → Sweep
-after_point z = record { next = z.next + 1; passed = z.passed; ahead = z.ahead; given = z.given; row = z.row; carried = z.carried; opened = z.opened }
-
--- with so many live rectangles passed, and the first ahead at this place
-abbrev pub with_stacks : Sweep → (passed ahead : ℕ) → Sweep
-with_stacks z passed ahead = record { next = z.next; passed = passed; ahead = ahead; given = z.given; row = z.row; carried = z.carried; opened = z.opened }
-
--- with so many rectangles begun
-abbrev pub with_given : Sweep → ℕ → Sweep
-with_given z given = record { next = z.next; passed = z.passed; ahead = z.ahead; given = given; row = z.row; carried = z.carried; opened = z.opened }
-
--- on this row
-abbrev pub with_row : Sweep → ℤ → Sweep
-with_row z row = record { next = z.next; passed = z.passed; ahead = z.ahead; given = z.given; row = row; carried = z.carried; opened = z.opened }
-
--- with this right end carried
-abbrev pub with_carried : Sweep → ℤ → Sweep
-with_carried z carried = record { next = z.next; passed = z.passed; ahead = z.ahead; given = z.given; row = z.row; carried = carried; opened = z.opened }
-
--- with this left end open
-abbrev pub with_opened : Sweep → ℤ → Sweep
-with_opened z opened = record { next = z.next; passed = z.passed; ahead = z.ahead; given = z.given; row = z.row; carried = z.carried; opened = opened }
+-- the nearer of the end at x and the right end carried
+abbrev pub nearer : Sweep → (x : ℤ) → ℤ
+nearer z x = cond (lt_z x z.carried) x z.carried
 
 -- ---- What the moves make of where the sweep stands
 
@@ -121,57 +81,69 @@ with_opened z opened = record { next = z.next; passed = z.passed; ahead = z.ahea
 abbrev pub start_of : (room : ℕ) → Sweep
 start_of room = record { next = 0; passed = 0; ahead = room; given = 0; row = first_row; carried = far; opened = far }
 
+-- after its next point
+abbrev pub after_point : Sweep → Sweep
+after_point z = record z { next = z.next + 1 }
+
+-- with this right end carried
+abbrev pub with_carried : Sweep → ℤ → Sweep
+with_carried z x = record z { carried = x }
+
 -- without a point and the right end carried
 abbrev pub cancelled : Sweep → Sweep
 cancelled z = with_carried (after_point z) far
 
--- without the nearer of a point and the right end carried
-abbrev pub taken_from : Sweep → Point → Sweep
-taken_from z t = cond (lt_z t.x z.carried) (after_point z) (with_carried z far)
+-- without the nearer of the point at x and the right end carried
+abbrev pub taken_from : Sweep → (x : ℤ) → Sweep
+taken_from z x = cond (lt_z x z.carried) (after_point z) (with_carried z far)
+
+-- with this left end open
+abbrev pub with_opened : Sweep → ℤ → Sweep
+with_opened z x = record z { opened = x }
 
 -- with the open one closed
 abbrev pub closed : Sweep → Sweep
-closed z = with_given (with_opened (with_stacks z (z.passed + 1) z.ahead) far) (z.given + 1)
+closed z = record z { passed = z.passed + 1; given = z.given + 1; opened = far }
 
 -- the rectangle from the open end to this one
-abbrev pub new_live : Sweep → Point → Live
-new_live z v = record { left = z.opened; right = v.x; row = z.row; place = pos z.given }
+abbrev pub new_live : Sweep → (x : ℤ) → Live
+new_live z x = record { left = z.opened; right = x; row = z.row; place = pos z.given }
 
 -- with an end put on the row: it opens a rectangle, or closes the open one
-abbrev pub end_put : Sweep → Point → Sweep
-end_put z v = cond (eq_z z.opened far) (with_opened z v.x) (closed z)
+abbrev pub end_put : Sweep → (x : ℤ) → Sweep
+end_put z x = cond (eq_z z.opened far) (with_opened z x) (closed z)
 
 -- the working array then
-abbrev pub end_put_work : (work : List ℤ) → Sweep → Point → List ℤ
-end_put_work work z v = cond (eq_z z.opened far) work (put_live work z.passed (new_live z v))
+abbrev pub end_put_work : (work : List ℤ) → Sweep → (x : ℤ) → List ℤ
+end_put_work work z x = cond (eq_z z.opened far) work (put_live work z.passed (new_live z x))
 
 -- with the next one ahead passed
 abbrev pub passing : Sweep → Sweep
-passing z = with_stacks z (z.passed + 1) (z.ahead + 1)
+passing z = record z { passed = z.passed + 1; ahead = z.ahead + 1 }
 
 -- with the next one ahead ended, and its right end carried
 abbrev pub carrying : Sweep → Live → Sweep
-carrying z k = with_carried (with_stacks z z.passed (z.ahead + 1)) k.right
-
--- its left end as an end on the row
-abbrev pub left_end : Sweep → Live → Point
-left_end z k = record { x = k.left; y = z.row }
+carrying z k = record z { ahead = z.ahead + 1; carried = k.right }
 
 -- with both its ends put on the row; a left end goes with the nearer end where that is
-abbrev pub cut_to : Sweep → Point → Live → Sweep
-cut_to z t k = cond (eq_z (nearer z t).x k.left) (carrying (taken_from z t) k) (end_put (carrying z k) (left_end z k))
+abbrev pub cut_to : Sweep → (t : ℤ) → Live → Sweep
+cut_to z t k = carrying (cond (eq_z (nearer z t) k.left) (taken_from z t) (end_put z k.left)) k
 
 -- the working array then
-abbrev pub cut_work : (work : List ℤ) → Sweep → Point → Live → List ℤ
-cut_work work z t k = cond (eq_z (nearer z t).x k.left) work (end_put_work work (carrying z k) (left_end z k))
+abbrev pub cut_work : (work : List ℤ) → Sweep → (t : ℤ) → Live → List ℤ
+cut_work work z t k = cond (eq_z (nearer z t) k.left) work (end_put_work work z k.left)
 
 -- the rectangle of one that ends on the row
 abbrev pub ended_box : Sweep → Live → Rect
 ended_box z k = record { x = k.left; y = k.row; w = k.right -ℤ k.left; h = z.row -ℤ k.row }
 
+-- with so many live rectangles passed, and the first ahead at this place
+abbrev pub with_stacks : Sweep → (passed ahead : ℕ) → Sweep
+with_stacks z passed ahead = record z { passed = passed; ahead = ahead }
+
 -- on the row of a point
 abbrev pub at_row : Sweep → Point → (passed ahead : ℕ) → Sweep
-at_row z p passed ahead = with_row (with_stacks z passed ahead) p.y
+at_row z p passed ahead = record (with_stacks z passed ahead) { row = p.y }
 
 -- turned to the row of a point: as many as are ahead again are passed no more, they stand before those ahead, and the last one that is
 -- still passed is left of the point
@@ -190,6 +162,10 @@ pub record Turned (p : Point) (z : Sweep) (before : List ℤ) (r : Sweep) (after
 -- the points that are swept: those of an array at some places
 abbrev pub swept_points : (a : List ℤ) (order : List ℕ) → List Point
 swept_points a order = points_at (points_of a) order
+
+-- the same, of the code's struct
+abbrev pub swept : Points → List Point
+swept points = swept_points points.given.now points.order.now
 
 -- how many live rectangles the working array has room for
 abbrev pub room_for : List Point → ℕ
@@ -226,6 +202,14 @@ pub record Ready (qs : List Point) (work : ℕ) : Type 0 where
 abbrev pub most_begun : ℕ
 most_begun = most_points * most_points
 
+-- where a sweep stands there is room for one more: of what it counts nothing is at its most, nor is the working array full
+pub record OneMore (z : Sweep) (work : ℕ) : Type 0 where
+  pub next-few : z.next ≤ most_points
+  pub given-few : z.given ≤ most_begun
+  pub passed-few : z.passed < most_points
+  pub ahead_few : z.ahead < most_points
+  pub in_work : live_size * (z.passed + 1) ≤ work
+
 -- a sweep of them is under way, with a point in hand or none
 pub record Underway (qs : List Point) (work : List ℤ) (z : Sweep) (hand : ℤ) : Type 0 where
   pub ready : Ready qs (length work)
@@ -261,35 +245,27 @@ pub record Gives (qs : List Point) (z : Sweep) (before : List ℤ) (rect : Rect)
   pub rect-is : rect ≡ rect_no qs place
   pub balance : (w : ℕ → ℕ) → live_sum qs after at w + (w place + sum_below z.given w) ≡ live_sum qs before z w + sum_below at.given w
 
--- a move that is refused, with DRAINED: none is live, and all have begun
+-- no point is left: none is live, and all have begun
 pub record AllGiven (qs : List Point) (z : Sweep) (before after : List ℤ) : Type 0 where
   pub kept : KeptPast (2 * length qs) before after
   pub none-live : passed_in before z ++ ahead_in qs before z ≡ []
   pub all-begun : z.given ≡ length (rule_list qs)
 
 -- document 01's number for each case of a move: with a rectangle, or on the way to one, it is answer 0
-abbrev pub move_number : Move → ℕ
-move_number (Onward at) = 0
-move_number (Rectangle rect place at) = 0
-move_number (Refused k p) = k
+abbrev pub move_number : Result (Option Placed) Refusal → ℕ
+move_number (Ok _) = 0
+move_number (Err e) = number_of e.reason
 
 -- and its place, 0 with answer 0
-abbrev pub move_place : Move → ℕ
-move_place (Onward at) = 0
-move_place (Rectangle rect place at) = 0
-move_place (Refused k p) = p
+abbrev pub move_place : Result (Option Placed) Refusal → ℕ
+move_place (Ok _) = 0
+move_place (Err e) = e.place
 
 -- what a move does
-abbrev pub Advanced : (qs : List Point) (z : Sweep) (before : List ℤ) → Move → (after : List ℤ) → Type 0
-Advanced qs z before (Onward at) after = GoesOn qs z before at after
-Advanced qs z before (Rectangle rect place at) after = Gives qs z before rect place at after
-Advanced qs z before (Refused k p) after = (move_number (Refused k p) ≡ 10) × (move_place (Refused k p) ≡ 0) × AllGiven qs z before after
-
--- the list is counted and summed, with an edge that is told, and written if asked for
-pub record Swept (qs : List Point) (writes : Bool) (edge : ℕ) (work before : List ℤ) (r : ForwardAnswer) (work-after after : List ℤ) : Type 0 where
-  pub kept : KeptPast (2 * length qs) work work-after
-  pub answer : r ≡ forward_says accepted (sums_of (rule_list qs) edge)
-  pub output : after ≡ cond writes (at_start (flat_rects (rule_list qs)) before) before
+abbrev pub Advanced : (qs : List Point) (z : Sweep) (before : List ℤ) → Result (Option Placed) Refusal → (at : Sweep) (after : List ℤ) → Type 0
+Advanced qs z before (Ok None) at after = GoesOn qs z before at after
+Advanced qs z before (Ok (Some r)) at after = Gives qs z before r.rect r.place at after
+Advanced qs z before (Err e) at after = (move_number (Err e) ≡ 10) × (move_place (Err e) ≡ 0) × AllGiven qs z before after
 
 -- ---- The points that remain
 

@@ -7,32 +7,98 @@
 // others. The points of a row, two by two, begin new rectangles. That this gives the rule's list is shown in the crate `live`.
 #![tactic(auto)]
 
-ghost use Rattle.std.specs.Prelude.{◌≡◌, true, false, not, length, pos, ◌-ℤ◌, ◌+◌, ◌*◌, ◌<◌, ◌≤◌};
+ghost use Rattle.std.specs.Prelude.{◌≡◌, not, length, slice_get, ◌-ℤ◌, ◌+◌, ◌*◌, ◌<◌, ◌≤◌};
 ghost use Rattle.std.specs.Int.{w32};
 ghost use Rattle.std.proofs.Common.{SFits};
-ghost use Rattle.std.specs.Int.Signed.{lt_z, le_z};
 ghost use Rattle.plane.specs.Lists.{at_start};
-ghost use Rattle.plane.specs.Words.{eq_z, points_of, rect_size, flat, area_of, most_points};
+ghost use Rattle.plane.specs.Words.{eq_z, points_of, rect_size, flat_rects, area_of, most_points};
 ghost use Rattle.plane.specs.Edge.{edge_length};
 ghost use Rattle.plane.specs.Swaps.{paired_at};
-ghost use Rattle.entry.specs.Checks.{first_bad, verdict};
-ghost use Rattle.entry.specs.Entry.{counted};
+ghost use Rattle.entry.specs.Checks.{verdict};
+ghost use Rattle.entry.specs.Entry.{counted, told};
 ghost use Rattle.rule.specs.Rule.{rule_list};
-ghost use Rattle.rule.specs.ForwardCall.{ForwardAccepted, points_remaining, forward_list, ForwardDone, input_checks};
-ghost use Rattle.live.specs.Stands.{far, number};
-ghost use Rattle.sweep.specs.Inner.{put_rect, live_size, live_at, put_live, zeroed, far_point, far_live, next_point, next_live, on_row_of, carried_point, nearer};
-ghost use Rattle.sweep.specs.Inner.{with_opened, start_of, cancelled, taken_from, new_live, end_put, end_put_work, passing, carrying, left_end, cut_to, cut_work};
-ghost use Rattle.sweep.specs.Inner.{ended_box, at_row, Turned, swept_points, Ready, Underway, Advanced, Swept, same_place, standing, Ordered, StandFor, most_begun};
+ghost use Rattle.rule.specs.ForwardCall.{ForwardAccepted, sums_of, points_remaining, forward_list, ForwardDone, forward_told, input_checks};
+ghost use Rattle.live.specs.Stands.{far};
+ghost use Rattle.sweep.specs.Inner.{put_at, live_size, live_at, put_live, x_on, reached_at, nearer, start_of, taken_from, end_put, end_put_work};
+ghost use Rattle.sweep.specs.Inner.{passing, cut_to, cut_work, ended_box, Turned, swept, room_for, Ready, OneMore, Underway, Advanced};
+ghost use Rattle.sweep.specs.Inner.{KeptPast, same_place, standing, Ordered, StandFor};
 
 use checks::order_points;
-use entry::{Counted, DONE, DRAINED, LENGTH, MANY, ROOM, WORK, refusal};
+use entry::{Reason, Refusal};
 use live::Live;
-use plane::{MOST_POINTS, Point, RECT_SIZE, Rect, point_at, same_point};
-use rule::ForwardAnswer;
+use plane::{MOST_POINTS, Point, RECT_SIZE, Rect, point_at};
+use rule::Sums;
+
+// ---- The points that are swept
+
+// Those of an array, at places of it, in order. The working array goes beside: it is written, and these are only read.
+#[derive(Clone, Copy)]
+struct Points<'a> {
+    given: &'a [i32],
+    order: &'a [u16],
+}
+
+impl Points<'_> {
+    // The point with this number.
+    fn get(self, i: usize) -> Option<Point>
+        ensures { result ≡ slice_get (swept self.entry) i }
+    {
+        let place = *self.order.get(i)?;
+        Some(point_at(self.given, place as usize))
+    }
+
+    // Whether the point with this number is equal to the next one.
+    fn is_paired(self, i: usize) -> bool
+        requires { i < length self.order.now }
+        ensures { result ≡ paired_at (same_place (points_of self.entry.given.now)) 0 self.entry.order.now i }
+    {
+        if i + 1 < self.order.len() {
+            let p = point_at(self.given, self.order[i] as usize);
+            return p == point_at(self.given, self.order[i + 1] as usize);
+        }
+        false
+    }
+
+    // How many live rectangles there is room for.
+    fn room(self) -> usize
+        ensures { result ≡ room_for (swept self.entry) }
+    {
+        self.order.len() / 2
+    }
+}
+
+// ---- Four numbers in an array
+
+// Puts a rectangle's four numbers, or a live one's, at place i of an array of these.
+fn put_four(numbers: &mut [i32], i: usize, four: [i32; 4])
+    requires { rect_size * (i + 1) ≤ length numbers.old }
+    ensures { numbers.new ≡ put_at numbers.old i four }
+{
+    numbers[RECT_SIZE * i] = four[0];
+    numbers[RECT_SIZE * i + 1] = four[1];
+    numbers[RECT_SIZE * i + 2] = four[2];
+    numbers[RECT_SIZE * i + 3] = four[3];
+}
+
+// How many numbers a live rectangle has in the working array.
+const LIVE_SIZE: usize = 4;
+
+// Without a test of the place, which the sweep knows to be there: its moves run fast.
+fn live_at(work: &[i32], i: usize) -> Live
+    requires { live_size * (i + 1) ≤ length work.now }
+    ensures { result ≡ live_at work.now i }
+{
+    Live {
+        left: work[LIVE_SIZE * i],
+        right: work[LIVE_SIZE * i + 1],
+        row: work[LIVE_SIZE * i + 2],
+        place: work[LIVE_SIZE * i + 3],
+    }
+}
 
 // ---- Where a sweep stands
 
-// Right of every coordinate: where there is no point.
+// Right of every coordinate: x of an end that is not there, so that the nearer of two ends is the lesser number whichever of them are there.
 const FAR: i32 = 2_000_000_000;
 
 // The number of the next point, of live rectangles passed, the place of the first one ahead, and how many rectangles have begun; the row,
@@ -48,553 +114,288 @@ struct Sweep {
     opened: i32,
 }
 
-// What a move gives: it goes on; a rectangle of the list is done, with its place; or it is refused, for no point is left.
+// A rectangle of the list, and its place there.
 #[derive(Clone, Copy)]
-enum Move {
-    Onward { at: Sweep },
-    Rectangle { rect: Rect, place: usize, at: Sweep },
-    Refused { answer: u32, place: u64 },
+struct Placed {
+    rect: Rect,
+    place: usize,
 }
 
-// Before the first point, with room for so many live rectangles.
-fn start(room: usize) -> Sweep
-    ensures { result ≡ start_of room }
-{
-    Sweep {
-        next: 0,
-        passed: 0,
-        ahead: room,
-        given: 0,
-        row: -FAR,
-        carried: FAR,
-        opened: FAR,
-    }
-}
-
-// ---- Live rectangles in the working array
-
-// How many numbers one has there.
-const LIVE_SIZE: usize = 4;
-
-fn live_at(work: &[i32], i: usize) -> Live
-    requires { live_size * (i + 1) ≤ length work.now }
-    ensures { result ≡ live_at work.now i }
-{
-    Live {
-        left: work[LIVE_SIZE * i],
-        right: work[LIVE_SIZE * i + 1],
-        row: work[LIVE_SIZE * i + 2],
-        place: work[LIVE_SIZE * i + 3],
-    }
-}
-
-fn put_live(work: &mut [i32], i: usize, k: Live)
-    requires { live_size * (i + 1) ≤ length work.old }
-    ensures { work.new ≡ put_live work.old i k }
-{
-    let left = k.left;
-    let right = k.right;
-    let row = k.row;
-    let place = k.place;
-    work[LIVE_SIZE * i] = left;
-    work[LIVE_SIZE * i + 1] = right;
-    work[LIVE_SIZE * i + 2] = row;
-    work[LIVE_SIZE * i + 3] = place;
-}
-
-// ---- What is next
-
-fn far_point() -> Point
-    ensures { result ≡ far_point }
-{
-    Point { x: FAR, y: FAR }
-}
-
-fn far_live() -> Live
-    ensures { result ≡ far_live }
-{
-    Live {
-        left: FAR,
-        right: FAR,
-        row: 0,
-        place: 0,
-    }
-}
-
-// The point with this number in order, and a far one where there is none.
-fn next_point(points: &[i32], order: &[u16], i: usize) -> Point
-    ensures { result ≡ next_point points.now order.now i }
-{
-    if i < order.len() {
-        return point_at(points, order[i] as usize);
-    }
-    far_point()
-}
-
-// The live rectangle at a place below `end`, and a far one where there is none.
-fn next_live(work: &[i32], i: usize, end: usize) -> Live
-    requires { live_size * end ≤ length work.now }
-    ensures { result ≡ next_live work.now i end }
-{
-    if i < end {
-        return live_at(work, i);
-    }
-    far_live()
-}
-
-// The point, if it is on the sweep's row, and a far one otherwise.
-fn on_row(z: Sweep, p: Point) -> Point
-    ensures { result ≡ on_row_of z p }
-{
-    if p.y == z.row {
-        return p;
-    }
-    far_point()
-}
-
-fn is_far(p: Point) -> bool
-    ensures { result ≡ eq_z p.x far }
-{
-    p.x == FAR
-}
-
-// Whether the point is where the right end carried is: both far, or two that cancel.
-fn is_carried(z: Sweep, t: Point) -> bool
-    ensures { result ≡ eq_z t.x z.carried }
-{
-    t.x == z.carried
-}
-
-fn carried_point(z: Sweep) -> Point
-    ensures { result ≡ carried_point z }
-{
-    Point {
-        x: z.carried,
-        y: z.row,
-    }
-}
-
-fn is_before_carried(z: Sweep, t: Point) -> bool
-    ensures { result ≡ lt_z t.x z.carried }
-{
-    t.x < z.carried
-}
-
-// The nearer of the point and the right end carried.
-fn nearer_end(z: Sweep, t: Point) -> Point
-    ensures { result ≡ nearer z t }
-{
-    if is_before_carried(z, t) {
-        return t;
-    }
-    carried_point(z)
-}
-
-fn is_left_of(v: Point, k: Live) -> bool
-    ensures { result ≡ lt_z v.x k.left }
-{
-    v.x < k.left
-}
-
-fn is_at_left(v: Point, k: Live) -> bool
-    ensures { result ≡ eq_z v.x k.left }
-{
-    v.x == k.left
-}
-
-fn is_open(z: Sweep) -> bool
-    ensures { result ≡ not (eq_z z.opened far) }
-{
-    z.opened != FAR
-}
-
-fn falls_into(v: Point, k: Live) -> bool
-    ensures { result ≡ lt_z v.x k.right }
-{
-    v.x < k.right
-}
-
-fn is_passed_by(p: Point, k: Live) -> bool
-    ensures { result ≡ le_z k.right p.x }
-{
-    k.right <= p.x
-}
-
-// ---- One end less
-
-// The point and the right end carried go.
-fn cancel(mut z: Sweep) -> Sweep
-    requires { z.next ≤ most_points }
-    ensures { result ≡ cancelled z }
-{
-    z.next += 1;
-    z.carried = FAR;
-    z
-}
-
-// The nearer of the point and the right end carried is taken.
-fn taken(mut z: Sweep, t: Point) -> Sweep
-    requires { z.next ≤ most_points }
-    ensures { result ≡ taken_from z t }
-{
-    if is_before_carried(z, t) {
-        z.next += 1;
-    } else {
-        z.carried = FAR;
-    }
-    z
-}
-
-// ---- Rectangles that begin
-
-fn open_at(mut z: Sweep, v: Point) -> Sweep
-    ensures { result ≡ with_opened z v.x }
-{
-    z.opened = v.x;
-    z
-}
-
-// The live rectangle from the end that is open to this one.
-fn new_live(z: Sweep, v: Point) -> Live
-    requires { z.given ≤ most_begun }
-    ensures { result ≡ new_live z v }
-{
-    Live {
-        left: z.opened,
-        right: v.x,
-        row: z.row,
-        place: z.given as i32,
-    }
-}
-
-// An end on the row: it opens a rectangle, or closes the one that is open.
-fn put_end(work: &mut [i32], mut z: Sweep, v: Point) -> Sweep
-    requires { (z.given ≤ most_begun) × (z.passed < most_points) × (live_size * (z.passed + 1) ≤ length work.old) }
-    ensures value { result ≡ end_put z v }
-    ensures work_after { work.new ≡ end_put_work work.old z v }
-{
-    if is_open(z) {
-        put_live(work, z.passed, new_live(z, v));
-        z.passed += 1;
-        z.given += 1;
-        z.opened = FAR;
-        return z;
-    }
-    open_at(z, v)
-}
-
-// ---- Live rectangles that the sweep comes to
-
-// The next one ahead goes on.
-fn pass(mut z: Sweep) -> Sweep
-    requires { (z.passed < most_points) × (z.ahead < most_points) }
-    ensures { result ≡ passing z }
-{
-    z.passed += 1;
-    z.ahead += 1;
-    z
-}
-
-// It ends, and its right end is carried.
-fn carry(mut z: Sweep, k: Live) -> Sweep
-    requires { z.ahead < most_points }
-    ensures { result ≡ carrying z k }
-{
-    z.ahead += 1;
-    z.carried = k.right;
-    z
-}
-
-fn left_end(z: Sweep, k: Live) -> Point
-    ensures { result ≡ left_end z k }
-{
-    Point {
-        x: k.left,
-        y: z.row,
-    }
-}
-
-// The next one ahead ends. Its left end goes with a point or a carried end there, or is an end on the row.
-fn cut(work: &mut [i32], z: Sweep, t: Point, k: Live) -> Sweep
-    requires { (z.next ≤ most_points) × (z.given ≤ most_begun) × (z.passed < most_points) × (z.ahead < most_points) × (live_size * (z.passed + 1) ≤ length work.old) }
-    ensures value { result ≡ cut_to z t k }
-    ensures work_after { work.new ≡ cut_work work.old z t k }
-{
-    let v = nearer_end(z, t);
-    if is_at_left(v, k) {
-        return carry(taken(z, t), k);
-    }
-    put_end(work, carry(z, k), left_end(z, k))
-}
-
-// The rectangle that ends on the row.
-fn ended(z: Sweep, k: Live) -> Rect
-    requires { SFits w32 (k.right -ℤ k.left) × SFits w32 (z.row -ℤ k.row) }
-    ensures { result ≡ ended_box z k }
-{
-    Rect {
-        x: k.left,
-        y: k.row,
-        w: k.right - k.left,
-        h: z.row - k.row,
-    }
-}
-
-// A live rectangle's place in the list.
-fn place_in_list(k: Live) -> usize
-    requires { k.place ≡ pos (number k) }
-    ensures { result ≡ number k }
-{
-    let place = k.place;
-    place as usize
-}
-
-// ---- The next row
-
-fn begin_row(mut z: Sweep, p: Point, passed: usize, ahead: usize) -> Sweep
-    ensures { result ≡ at_row z p passed ahead }
-{
-    z.passed = passed;
-    z.ahead = ahead;
-    z.row = p.y;
-    z
-}
-
-// Turns to the row of its first point: the live rectangles that end right of it are ahead again.
-fn turn(work: &mut [i32], z: Sweep, p: Point) -> Sweep
-    requires { (z.passed ≤ z.ahead) × (live_size * z.ahead ≤ length work.old) }
-    ensures { Turned p z work.old result work.new }
-{
-    let mut passed = z.passed;
-    let mut ahead = z.ahead;
-    while 0 < passed {
-        let k = live_at(work, passed - 1);
-        if is_passed_by(p, k) {
-            return begin_row(z, p, passed, ahead);
+impl Sweep {
+    // Before the first point, with room for so many live rectangles.
+    fn new(room: usize) -> Self
+        ensures { result ≡ start_of room }
+    {
+        Sweep {
+            next: 0,
+            passed: 0,
+            ahead: room,
+            given: 0,
+            row: -FAR,
+            carried: FAR,
+            opened: FAR,
         }
-        passed -= 1;
-        ahead -= 1;
-        put_live(work, ahead, k);
     }
-    begin_row(z, p, passed, ahead)
-}
 
-// ---- One move
+    // ---- What is next
 
-// The next move of a sweep of the points at these places.
-fn advance(points: &[i32], order: &[u16], work: &mut [i32], z: Sweep) -> Move
-    requires { Underway (swept_points points.now order.now) work.old z far }
-    ensures { Advanced (swept_points points.now order.now) z work.old result work.new }
-{
-    let p = next_point(points, order, z.next);
-    let t = on_row(z, p);
-    if is_carried(z, t) {
-        if !is_far(t) {
-            return Move::Onward { at: cancel(z) };
+    // x of the point, if it is on the row.
+    fn on_row(&self, p: Option<Point>) -> i32
+        ensures { result ≡ x_on self.now.row p }
+    {
+        match p {
+            Some(p) if p.y == self.row => p.x,
+            _ => FAR,
         }
-        if is_far(p) {
-            return Move::Refused {
-                answer: DRAINED,
-                place: 0,
+    }
+
+    // The nearer of the end at x and the right end carried.
+    fn nearer(&self, x: i32) -> i32
+        ensures { result ≡ nearer self.now x }
+    {
+        if x < self.carried { x } else { self.carried }
+    }
+
+    fn is_open(&self) -> bool
+        ensures { result ≡ not (eq_z self.now.opened far) }
+    {
+        self.opened != FAR
+    }
+
+    // The live rectangle that is next before the place `end`, unless x is left of it.
+    fn reached(&self, work: &[i32], end: usize, x: i32) -> Option<Live>
+        requires { live_size * end ≤ length work.now }
+        ensures { result ≡ reached_at work.now self.now.ahead end x }
+    {
+        if self.ahead < end {
+            let k = live_at(work, self.ahead);
+            if k.left <= x {
+                return Some(k);
+            }
+        }
+        None
+    }
+
+    // ---- Ends on the row
+
+    // The nearer of the point at x and the right end carried is taken.
+    fn take(&mut self, x: i32)
+        requires { self.old.next ≤ most_points }
+        ensures { self.new ≡ taken_from self.old x }
+    {
+        if x < self.carried {
+            self.next += 1;
+        } else {
+            self.carried = FAR;
+        }
+    }
+
+    // An end at x: it opens a rectangle, or closes the one that is open.
+    fn put_end(&mut self, work: &mut [i32], x: i32)
+        requires { OneMore self.old (length work.old) }
+        ensures value { self.new ≡ end_put self.old x }
+        ensures work_after { work.new ≡ end_put_work work.old self.old x }
+    {
+        if !self.is_open() {
+            self.opened = x;
+            return;
+        }
+        put_four(
+            work,
+            self.passed,
+            [self.opened, x, self.row, self.given as i32],
+        );
+        self.passed += 1;
+        self.given += 1;
+        self.opened = FAR;
+    }
+
+    // ---- Live rectangles that the sweep comes to
+
+    // The next one ahead goes on.
+    fn pass(&mut self, work: &mut [i32], k: Live)
+        requires { OneMore self.old (length work.old) }
+        ensures value { self.new ≡ passing self.old }
+        ensures work_after { work.new ≡ put_live work.old self.old.passed k }
+    {
+        put_four(work, self.passed, [k.left, k.right, k.row, k.place]);
+        self.passed += 1;
+        self.ahead += 1;
+    }
+
+    // The next one ahead ends, and its right end is carried. Its left end goes with the nearer of the point at t and the end carried before, if that
+    // is there too, or is put on the row.
+    fn cut(&mut self, work: &mut [i32], t: i32, k: Live)
+        requires { OneMore self.old (length work.old) }
+        ensures value { self.new ≡ cut_to self.old t k }
+        ensures work_after { work.new ≡ cut_work work.old self.old t k }
+    {
+        if self.nearer(t) == k.left {
+            self.take(t);
+        } else {
+            self.put_end(work, k.left);
+        }
+        self.ahead += 1;
+        self.carried = k.right;
+    }
+
+    // The rectangle that ends on the row.
+    fn ended(&self, k: Live) -> Rect
+        requires { SFits w32 (k.right -ℤ k.left) × SFits w32 (self.now.row -ℤ k.row) }
+        ensures { result ≡ ended_box self.now k }
+    {
+        Rect {
+            x: k.left,
+            y: k.row,
+            w: k.right - k.left,
+            h: self.row - k.row,
+        }
+    }
+
+    // ---- The next row
+
+    // Turns to the row of its first point: the live rectangles that end right of it are ahead again. It goes down two stacks at once, of which no range
+    // tells.
+    fn turn(&mut self, work: &mut [i32], p: Point)
+        requires { (self.old.passed ≤ self.old.ahead) × (live_size * self.old.ahead ≤ length work.old) }
+        ensures { Turned p self.old work.old self.new work.new }
+    {
+        while 0 < self.passed {
+            let k = live_at(work, self.passed - 1);
+            if k.right <= p.x {
+                break;
+            }
+            self.passed -= 1;
+            self.ahead -= 1;
+            put_four(work, self.ahead, [k.left, k.right, k.row, k.place]);
+        }
+        self.row = p.y;
+    }
+
+    // ---- One move
+
+    // The next move of a sweep of these points: the rectangle that is done with it, if one is. Nothing but DRAINED is refused: no point is left,
+    // and the loops leave on it, in the form that document 01 names.
+    // In line in both loops over it, which keep where the sweep stands in registers.
+    #[inline(always)]
+    fn advance(&mut self, points: Points<'_>, work: &mut [i32]) -> Result<Option<Placed>, Refusal>
+        requires { Underway (swept points) work.old self.old far }
+        ensures { Advanced (swept points.entry) self.old work.old result self.new work.new }
+    {
+        let next = points.get(self.next);
+        let t = self.on_row(next);
+        if t == self.carried {
+            if t != FAR {
+                self.next += 1;
+                self.carried = FAR;
+                return Ok(None);
+            }
+            let Some(p) = next else {
+                return Err(Reason::Drained.at(0));
             };
+            self.turn(work, p);
+            return Ok(None);
         }
-        return Move::Onward {
-            at: turn(work, z, p),
+        let x = self.nearer(t);
+        let Some(k) = self.reached(work, points.room(), x) else {
+            self.take(t);
+            self.put_end(work, x);
+            return Ok(None);
         };
+        if self.is_open() | (x < k.right) {
+            let rect = self.ended(k);
+            self.cut(work, t, k);
+            return Ok(Some(Placed {
+                rect,
+                place: k.place as usize,
+            }));
+        }
+        self.pass(work, k);
+        Ok(None)
     }
-    let k = next_live(work, z.ahead, order.len() / 2);
-    let v = nearer_end(z, t);
-    if is_left_of(v, k) {
-        return Move::Onward {
-            at: put_end(work, taken(z, t), v),
-        };
-    }
-    if is_open(z) | falls_into(v, k) {
-        let at = cut(work, z, t, k);
-        return Move::Rectangle {
-            rect: ended(z, k),
-            place: place_in_list(k),
-            at: at,
-        };
-    }
-    put_live(work, z.passed, k);
-    Move::Onward { at: pass(z) }
 }
 
 // ---- The list
 
-// Puts a rectangle at place i of the output.
-fn put_rect(out: &mut [i32], i: usize, r: Rect)
-    requires { rect_size * (i + 1) ≤ length out.old }
-    ensures { out.new ≡ put_rect out.old i r }
-{
-    let x = r.x;
-    let y = r.y;
-    let w = r.w;
-    let h = r.h;
-    out[RECT_SIZE * i] = x;
-    out[RECT_SIZE * i + 1] = y;
-    out[RECT_SIZE * i + 2] = w;
-    out[RECT_SIZE * i + 3] = h;
-}
-
 fn area_of(r: Rect) -> u64
-    requires { flat r ≡ false }
     ensures { result ≡ area_of r }
 {
-    let w = r.w;
-    let h = r.h;
-    (w as u64) * (h as u64)
+    (r.w.unsigned_abs() as u64) * (r.h.unsigned_abs() as u64)
 }
 
-// An answer that is a list.
-fn whole_list(count: usize, area: u64, edge: u64) -> ForwardAnswer
-    ensures { result ≡ record { answer = 0; place = 0; count = count; area = area; edge = edge } }
+// What is said beside the list, with the edge that is told.
+fn sum_all(points: Points<'_>, work: &mut [i32], edge: u64) -> Sums
+    requires { Ready (swept points) (length work.old) }
+    ensures kept { KeptPast (2 * length (swept points.entry)) work.old work.new }
+    ensures sums { result ≡ sums_of (rule_list (swept points.entry)) edge }
 {
-    ForwardAnswer {
-        answer: DONE,
-        place: 0,
-        count: count,
-        area: area,
-        edge: edge,
-    }
-}
-
-// Moves until one is refused, sums the rectangles' areas, and writes them if asked to. DRAINED gives the list, with the edge that is told; any
-// other refusal would be passed on as it is, and is proved not to come.
-fn sweep_all(
-    points: &[i32],
-    order: &[u16],
-    work: &mut [i32],
-    rects: &mut [i32],
-    writes: bool,
-    edge: u64,
-) -> ForwardAnswer
-    requires ready { Ready (swept_points points.now order.now) (length work.old) }
-    requires order_in_bounds { writes ≡ true → rect_size * length (rule_list (swept_points points.now order.now)) ≤ length rects.old }
-    ensures { Swept (swept_points points.now order.now) writes edge work.old rects.old result work.new rects.new }
-{
-    let mut z = start(order.len() / 2);
-    let mut made: usize = 0;
+    let mut z = Sweep::new(points.room());
+    let mut count: usize = 0;
     let mut area: u64 = 0;
-    loop {
-        match advance(points, order, work, z) {
-            Move::Onward { at } => {
-                z = at;
-            }
-            Move::Rectangle { rect, place, at } => {
-                if writes {
-                    put_rect(rects, place, rect);
-                }
-                area += area_of(rect);
-                made += 1;
-                z = at;
-            }
-            Move::Refused { answer, place } => {
-                if answer != DRAINED {
-                    return no_list(answer, place);
-                }
-                return whole_list(made, area, edge);
-            }
+    while let Ok(done) = z.advance(points, work) {
+        if let Some(Placed { rect, .. }) = done {
+            area += area_of(rect);
+            count += 1;
+        }
+    }
+    Sums { count, area, edge }
+}
+
+// Writes the list.
+fn write_all(points: Points<'_>, work: &mut [i32], rects: &mut [i32])
+    requires ready { Ready (swept points) (length work.old) }
+    requires has_room { rect_size * length (rule_list (swept points)) ≤ length rects.old }
+    ensures kept { KeptPast (2 * length (swept points.entry)) work.old work.new }
+    ensures output { rects.new ≡ at_start (flat_rects (rule_list (swept points.entry))) rects.old }
+{
+    let mut z = Sweep::new(points.room());
+    while let Ok(done) = z.advance(points, work) {
+        if let Some(Placed { rect, place }) = done {
+            put_four(rects, place, [rect.x, rect.y, rect.w, rect.h]);
         }
     }
 }
 
-// Sets the first n numbers to 0.
-fn zero_start(work: &mut [i32], n: usize)
-    requires { n ≤ length work.old }
-    ensures { work.new ≡ zeroed n work.old }
-{
-    let mut i = 0;
-    while i < n {
-        work[i] = 0;
-        i += 1;
-    }
-}
-
-// An answer that is a refusal.
-fn no_list(answer: u32, place: u64) -> ForwardAnswer
-    ensures { result ≡ record { answer = answer; place = place; count = 0; area = 0; edge = 0 } }
-{
-    ForwardAnswer {
-        answer: answer,
-        place: place,
-        count: 0,
-        area: 0,
-        edge: 0,
-    }
-}
-
-// Forward of points that the checks pass, with this edge, for which those at these places stand: counts the rectangles, and writes only where all have
-// room.
+// Forward of points that the checks pass, with this edge, for which those at these places stand: sums the rectangles, and writes only where all
+// have room.
 fn count_then_write(
-    points: &[i32],
-    order: &[u16],
+    points: Points<'_>,
     work: &mut [i32],
     rects: &mut [i32],
     edge: u64,
-) -> ForwardAnswer
-    requires forward_accepted { ForwardAccepted points.now (length work.old) (rect_size * length (forward_list points.now)) }
-    requires stand_for { StandFor points.now (length work.old) order.now }
-    requires edge_value { edge ≡ edge_length (points_remaining points.now) }
-    ensures { ForwardDone points.now work.old rects.old result work.new rects.new }
+) -> Result<Sums, Refusal>
+    requires forward_accepted { ForwardAccepted points.given.now (length work.old) (rect_size * length (forward_list points.given.now)) }
+    requires stand_for { StandFor points.given.now (length work.old) points.order.now }
+    requires edge_value { edge ≡ edge_length (points_remaining points.given.now) }
+    ensures { ForwardDone points.entry.given.now work.old rects.old (forward_told result) work.new rects.new }
 {
-    let given = points.len() / 2;
-    let counted = sweep_all(points, order, work, rects, false, edge);
-    let needed = counted.count;
-    if rects.len() / RECT_SIZE < needed {
-        zero_start(work, 2 * given);
-        return no_list(ROOM, needed as u64);
+    let given = points.given.len() / 2;
+    let sums = sum_all(points, work, edge);
+    if rects.len() / RECT_SIZE < sums.count {
+        work[..2 * given].fill(0);
+        return Err(Reason::Room.at(sums.count));
     }
-    let done = sweep_all(points, order, work, rects, true, edge);
-    zero_start(work, 2 * given);
-    done
+    write_all(points, work, rects);
+    work[..2 * given].fill(0);
+    Ok(sums)
 }
 
 // ---- The points that remain
 
-// Whether the places i and i + 1 are of equal points.
-fn is_paired(points: &[i32], order: &[u16], i: usize) -> bool
-    requires { i < length order.now }
-    ensures { result ≡ paired_at (same_place (points_of points.now)) 0 order.now i }
+// Drops places of equal points two by two, where they stand side by side. Gives how many are left at the start. It goes on by one place or by two,
+// as no range does.
+fn drop_pairs(given: &[i32], order: &mut [u16]) -> usize
+    ensures value { result ≡ length (standing (points_of given.now) order.old) }
+    ensures order_after { order.new ≡ at_start (standing (points_of given.now) order.old) order.old }
 {
-    if i + 1 < order.len() {
-        let p = point_at(points, order[i] as usize);
-        return same_point(p, point_at(points, order[i + 1] as usize));
-    }
-    false
-}
-
-// The first place that is paired with the next one, and their number where none is: then nothing is dropped, so that this is all that points of which
-// none is repeated go through.
-fn first_pair(points: &[i32], order: &[u16]) -> usize
-    ensures { result ≡ first_bad (length order.now) (paired_at (same_place (points_of points.now)) 0 order.now) }
-{
-    let n = order.len();
     let mut i = 0;
-    while i + 1 < n {
-        if is_paired(points, order, i) {
-            return i;
-        }
-        i += 1;
-    }
-    n
-}
-
-// Drops places of equal points two by two, where they stand side by side. Gives how many are left at the start.
-fn drop_pairs(points: &[i32], order: &mut [u16]) -> usize
-    ensures value { result ≡ length (standing (points_of points.now) order.old) }
-    ensures order_after { order.new ≡ at_start (standing (points_of points.now) order.old) order.old }
-{
-    let n = order.len();
-    let mut i = first_pair(points, order);
-    let mut left = i;
-    while i < n {
-        if is_paired(points, order, i) {
+    let mut left = 0;
+    while i < order.len() {
+        let points = Points { given, order };
+        if points.is_paired(i) {
             i += 2;
         } else {
-            let place = order[i];
-            order[left] = place;
+            order[left] = order[i];
             left += 1;
             i += 1;
         }
@@ -606,36 +407,41 @@ fn drop_pairs(points: &[i32], order: &mut [u16]) -> usize
 
 // The edge of the points as given, or what forward's checks before the room is known refuse. Where nothing is refused, `order` begins with the places
 // of the points in order.
-fn check_input(points: &[i32], work: usize, order: &mut [u16; MOST_POINTS]) -> Counted
-    ensures value { result ≡ counted (verdict (input_checks points.now work)) (edge_length (points_of points.now)) }
+fn check_input(
+    points: &[i32],
+    work: usize,
+    order: &mut [u16; MOST_POINTS],
+) -> Result<usize, Refusal>
+    ensures value { told result ≡ counted (verdict (input_checks points.now work)) (edge_length (points_of points.now)) }
     ensures ordered { Ordered points.now work order.new }
 {
     let n = points.len() / 2;
     if points.len() % 2 != 0 {
-        return refusal(LENGTH, 0);
+        return Err(Reason::Length.at(0));
     }
     if MOST_POINTS < n {
-        return refusal(MANY, 0);
+        return Err(Reason::Many.at(0));
     }
     if work < 2 * n {
-        return refusal(WORK, 0);
+        return Err(Reason::Work.at(0));
     }
     order_points(points, order)
 }
 
 // ---- The public function
 
-// The rectangles of the points that remain of the array's, written to `rects`, with their count, their area and the points' edge; or a refusal, which
-// leaves `rects` as it was. `points` is only read; `work` needs two numbers for each point given.
-pub fn sweep_points(points: &[i32], work: &mut [i32], rects: &mut [i32]) -> ForwardAnswer
-    ensures { ForwardDone points.now work.old rects.old result work.new rects.new }
+/// The rectangles of the points that remain of the array's, written to `rects`, with their count, their area and the points' edge; or a refusal,
+/// which leaves `rects` as it was. `points` is only read; `work` needs two numbers for each point given.
+pub fn sweep_points(points: &[i32], work: &mut [i32], rects: &mut [i32]) -> Result<Sums, Refusal>
+    ensures { ForwardDone points.now work.old rects.old (forward_told result) work.new rects.new }
 {
     let mut order: [u16; MOST_POINTS] = [0; MOST_POINTS];
-    let checked = check_input(points, work.len(), &mut order);
-    if checked.answer != DONE {
-        return no_list(checked.answer, checked.place);
-    }
+    let edge = check_input(points, work.len(), &mut order)?;
     let n = points.len() / 2;
-    let left = drop_pairs(points, &mut order[0..n]);
-    count_then_write(points, &order[0..left], work, rects, checked.count as u64)
+    let left = drop_pairs(points, &mut order[..n]);
+    let remaining = Points {
+        given: points,
+        order: &order[..left],
+    };
+    count_then_write(remaining, work, rects, edge as u64)
 }

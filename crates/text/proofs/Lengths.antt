@@ -39,7 +39,7 @@ pub text-length : (place : ℕ) → place < 2 ^ 64 → length (text_says place) 
 unfolding text_says
 text-length place h = simp length-append (omega (arith, wide-length place h))
 
-many-length : (read : ℕ) → length (many_says read) ≤ 200
+pub many-length : (read : ℕ) → length (many_says read) ≤ 200
 unfolding many_says
 many-length read = let P : List ℕ → Type 0 = λ l. length l ≤ 200 in cond-case P (ltb 65_536 read) (λ _. omega arith) (λ _. omega arith)
 

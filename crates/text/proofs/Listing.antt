@@ -11,14 +11,13 @@ use Rattle.plane.specs.Words.{origin}
 use Rattle.plane.proofs.Arrays.{points-flat}
 use Rattle.entry.specs.Checks.{accepted, refused, verdict}
 use Rattle.entry.proofs.Entry.{refused-is}
-use Rattle.rule.specs.declared.ForwardAnswer.{ForwardAnswer}
-use Rattle.rule.specs.ForwardCall.{forward_says, forward_answer, ForwardDone, forward_list, forward_sums}
+use Rattle.rule.specs.ForwardCall.{forward_says, forward_answer, ForwardDone, forward_list, forward_sums, ForwardAnswer}
 use Rattle.rule.proofs.Demands.{forward-verdict}
-use Rattle.panbuckle.proofs.Kept.{answers-0, done-list, done-told}
+use Rattle.panbuckle.proofs.Kept.{answers-0}
 use Rattle.reading.specs.Reading.{points_read, text_checks}
 use Rattle.text.specs.declared.Report.{Report}
-use Rattle.text.specs.Program.{most_work, most_list, list_lines, refusal_line, program_prints, program_report, ProgramDone, numbers_read, report_says, printed}
-use Rattle.text.specs.Inner.{says, listed, Listed}
+use Rattle.text.specs.Program.{most_work, most_list, refusal_line, program_prints, program_report, ProgramDone, numbers_read, report_says, printed}
+use Rattle.text.specs.Inner.{says, Listed}
 use Rattle.text.proofs.Checks.{program-forward, program-refused, text-names-none}
 
 module _ {a work out : List ℤ} {r : ForwardAnswer} {work-after out-after : List ℤ} (d : ForwardDone a work out r work-after out-after) where
@@ -32,11 +31,6 @@ module _ {a work out : List ℤ} {r : ForwardAnswer} {work-after out-after : Lis
   says-refused w o n =
       let e : r ≡ forward_says (says a) (forward_sums a) = rw (w, o) at d.answer in
       rw e (refused-is (says a) (rw e at n))
-
-  -- a list is printed as the rule's
-  pub listed-lines : r.answer ≡ 0 → listed r out-after ≡ list_lines (forward_sums a) (forward_list a)
-  unfolding list_lines
-  listed-lines done = rw (done-told d done, done-list d done)
 
 -- where the text is accepted, that is what the program does
 pub program-listed : {t out : List ℕ} {r : Report} {after : List ℕ} → verdict (text_checks t) ≡ accepted → Listed (numbers_read t) (length t) out r after → ProgramDone t out r after

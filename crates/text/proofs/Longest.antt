@@ -8,7 +8,7 @@ use mathlib.Core.Bool.{Bool, true, false, cond}
 use mathlib.Core.List.Memᴰ.{head}
 use mathlib.Core.List.Memᴰ.{tail}
 use mathlib.Core.List.{List, [], ◌∷◌, Memᴰ as In}
-use mathlib.Core.Option.{Option, none, some}
+use Rattle.std.specs.Prelude.{Option, None, Some}
 use lib.ListN.{length, length-append}
 use lib.IntN.{ℤ, ◌+ℤ◌}
 use lib.Signed.{mag}
@@ -25,7 +25,8 @@ use Rattle.entry.proofs.Verdicts.{PlacesWithin, place-within, clear-exactly, ref
 use Rattle.plane.proofs.Remaining.{remaining-few}
 use Rattle.rule.specs.Rule.{rule_list}
 use Rattle.rule.specs.Rows.{MANY, balance_checks}
-use Rattle.rule.specs.ForwardCall.{forward_checks, ForwardAccepted, points_remaining, forward_list, Sums, forward_sums, input_checks}
+use Rattle.rule.specs.declared.Sums.{Sums}
+use Rattle.rule.specs.ForwardCall.{forward_checks, ForwardAccepted, points_remaining, forward_list, forward_sums, input_checks}
 use Rattle.rule.proofs.Rows.{many-clear}
 use Rattle.rule.proofs.Bound.{rule-most}
 use Rattle.rule.proofs.Rising.{rule-rects}
@@ -100,8 +101,8 @@ points-length [] = omega arith
 points-length (l ∷ ls) = go (line_point l) (points-length ls)
   where
     go : (o : Option Point) → length (points_in ls) ≤ length ls → length (with_point o (points_in ls)) ≤ suc (length ls)
-    go none h = omega arith
-    go (some p) h = omega arith
+    go None h = omega arith
+    go (Some p) h = omega arith
 
 -- the program's places are those of lines and points, of which there are at most 65,536, or the length of a list
 program-within : (t : List ℕ) → length t ≤ 65_536 → PlacesWithin (2 ^ 32) (program_checks t)

@@ -3,7 +3,7 @@ use Prim.Native.Nat.{ℕ, zero, suc, ◌^◌, ◌<◌}
 use native.Mathlib.Omega.{arith}
 use mathlib.Core.Path.{◌≡◌, refl}
 use mathlib.Core.List.{List, [], ◌∷◌}
-use mathlib.Core.Option.{Option, none, some}
+use Rattle.std.specs.Prelude.{Option, None, Some}
 use lib.ListN.{length}
 use lib.IntN.{ℤ}
 use lib.Signed.{mag}
@@ -26,17 +26,17 @@ use Rattle.text.proofs.Longest.{place-small}
 
 -- a number that is read has 32 bits
 abbrev Held : Option ℤ → Type 0
-Held none = Unit
-Held (some z) = mag z < 2 ^ 31
+Held None = Unit
+Held (Some z) = mag z < 2 ^ 31
 
 plain-held : (o : Option ℕ) → Held (as_plain o)
-plain-held none = tt
-plain-held (some n) = cond-case Held (leb n 2_147_483_647) (λ e. omega (arith, leb-true n 2_147_483_647 e)) (λ _. tt)
+plain-held None = tt
+plain-held (Some n) = cond-case Held (leb n 2_147_483_647) (λ e. omega (arith, leb-true n 2_147_483_647 e)) (λ _. tt)
 
 negative-held : (o : Option ℕ) → Held (as_negative o)
-negative-held none = tt
-negative-held (some zero) = omega arith
-negative-held (some (suc n)) = cond-case Held (leb (suc n) 2_147_483_648) (λ e. omega (arith, leb-true (suc n) 2_147_483_648 e)) (λ _. tt)
+negative-held None = tt
+negative-held (Some zero) = omega arith
+negative-held (Some (suc n)) = cond-case Held (leb (suc n) 2_147_483_648) (λ e. omega (arith, leb-true (suc n) 2_147_483_648 e)) (λ _. tt)
 
 number-held : (bs : List ℕ) → Held (number_of bs)
 unfolding number_of
@@ -48,13 +48,13 @@ abbrev Small : Point → Type 0
 Small p = (mag p.x < 2 ^ 31) × (mag p.y < 2 ^ 31)
 
 abbrev BothHeld : Option Point → Type 0
-BothHeld none = Unit
-BothHeld (some p) = Small p
+BothHeld None = Unit
+BothHeld (Some p) = Small p
 
 both-held : (x y : Option ℤ) → Held x → Held y → BothHeld (point_from x y)
-both-held none y h k = tt
-both-held (some x) none h k = tt
-both-held (some x) (some y) h k = (h, k)
+both-held None y h k = tt
+both-held (Some x) None h k = tt
+both-held (Some x) (Some y) h k = (h, k)
 
 line-held : (l : Line) → BothHeld (line_point l)
 unfolding line_point
@@ -69,9 +69,9 @@ points-small [] i = omega arith
 points-small (l ∷ ls) i = go (line_point l) (line-held l) (points-small ls) i
   where
     go : (o : Option Point) → BothHeld o → ((j : ℕ) → Small (point_at (points_in ls) j)) → (i : ℕ) → Small (point_at (with_point o (points_in ls)) i)
-    go none h rest i = rest i
-    go (some p) h rest zero = h
-    go (some p) h rest (suc i) = rest i
+    go None h rest i = rest i
+    go (Some p) h rest zero = h
+    go (Some p) h rest (suc i) = rest i
 
 -- ---- The report
 

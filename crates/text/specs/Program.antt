@@ -1,15 +1,19 @@
 -- What the program refuses, prints and reports, of the bytes that it reads.
-use Rattle.std.specs.Prelude.{ℕ, ◌*◌, ◌≡◌, Bool, cond, ◌||◌, List, [], ◌∷◌, ◌++◌, length, ℤ, eqb}
+use Rattle.std.specs.Prelude.{ℕ, ◌*◌, ◌≡◌, Bool, cond, ◌||◌, List, [], ◌∷◌, ◌++◌, length, ℤ, eqb, Option, Some, None}
 use Rattle.plane.specs.declared.Point.{Point}
 use Rattle.plane.specs.declared.Rect.{Rect}
 use Rattle.plane.specs.Lists.{put_at}
 use Rattle.plane.specs.Words.{origin, flat_points, point_at, rect_size, most_points}
+use Rattle.entry.specs.declared.Refusal.{Refusal}
+use Rattle.entry.specs.Refusals.{number_of}
 use Rattle.entry.specs.Checks.{Check, Verdict, accepted, refused, verdict}
 use Rattle.entry.specs.Entry.{number_in, place_in}
-use Rattle.rule.specs.ForwardCall.{forward_checks, Sums, forward_sums, forward_list}
+use Rattle.rule.specs.declared.Sums.{Sums}
+use Rattle.rule.specs.ForwardCall.{forward_checks, forward_sums, forward_list}
 use Rattle.numerals.specs.Bytes.{ascii}
 use Rattle.numerals.specs.Numerals.{decimal, signed}
 use Rattle.reading.specs.Reading.{points_read, text_checks}
+use Rattle.text.specs.declared.Outcome.{Outcome}
 use Rattle.text.specs.declared.Report.{Report}
 
 -- ---- What is refused
@@ -80,6 +84,20 @@ offender k p ps = cond (names_one k) (point_at ps p) origin
 abbrev pub named : Verdict → List Point → Point
 named accepted ps = origin
 named (refused k p) ps = offender k p ps
+
+-- the number of what was refused, 0 where nothing was
+abbrev pub answer_told : Option Refusal → ℕ
+answer_told None = 0
+answer_told (Some e) = number_of e.reason
+
+-- its place, 0 where nothing was
+abbrev pub place_told : Option Refusal → ℕ
+place_told None = 0
+place_told (Some e) = e.place
+
+-- the report that an outcome tells
+abbrev pub outcome_told : Outcome → Report
+outcome_told o = record { answer = answer_told o.refusal; place = place_told o.refusal; point = o.point; read = o.read; printed = o.printed }
 
 -- answer, place, the point named, and how many bytes were read and printed
 abbrev pub report_says : Verdict → List Point → (read printed : ℕ) → Report

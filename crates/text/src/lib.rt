@@ -1,39 +1,51 @@
 // The program's whole behaviour on slices: bytes in, bytes out. What is refused, printed and said is in specs/.
 #![tactic(auto)]
 
-ghost use Rattle.std.specs.Prelude.{◌+◌, ◌*◌, ◌≤◌, ◌≡◌, length, take};
+ghost use Rattle.std.specs.Prelude.{◌+◌, ◌*◌, ◌≤◌, ◌≡◌, ◌++◌, length};
 ghost use Rattle.plane.specs.Lists.{put_at};
-ghost use Rattle.plane.specs.Words.{origin, points_of, rects_of, rect_size};
-ghost use Rattle.rule.specs.ForwardCall.{sums_told};
+ghost use Rattle.plane.specs.Words.{points_of, rects_of, rect_size};
+ghost use Rattle.entry.specs.Refusals.{number_of};
 ghost use Rattle.numerals.specs.Bytes.{Put};
-ghost use Rattle.numerals.specs.Inner.{Wrote};
-ghost use Rattle.text.specs.Program.{sums_line, rect_line, rect_lines, refusal_line, names_one, offender, ProgramDone, printed};
-ghost use Rattle.text.specs.Sentences.{many_says, names_point, point_fault, room_says, text_says, sentence};
-ghost use Rattle.text.specs.Inner.{worded, field, listed, Listed};
+ghost use Rattle.text.specs.Program.{sums_line, rect_line, list_lines, refusal_line, names_one, offender, outcome_told, ProgramDone};
+ghost use Rattle.text.specs.Sentences.{many_says, names_point, room_says, text_says, sentence};
+ghost use Rattle.text.specs.Inner.{Listed};
 
-use entry::{COLUMN, DONE, MANY, RANGE, ROOM, ROW, TEXT};
-use numerals::{put_bytes, put_number, put_signed};
-use panbuckle::{ForwardAnswer, Point, Rect, forward};
-use plane::{MOST_POINTS, RECT_SIZE, origin, point_at, rect_at};
+use entry::{Reason, Refusal};
+use numerals::{Page, put_bytes};
+use panbuckle::{Point, Rect, Sums, forward};
+use plane::{MOST_POINTS, RECT_SIZE, origin, point_at, rects_in};
 use reading::{MOST_BYTES, read_points};
 
-// The most rectangles of a list.
+/// The most rectangles of a list.
 pub const MOST_LISTED: usize = 3200;
 
-// The most numbers of a list.
+/// The most numbers of a list.
 pub const MOST_LIST: usize = RECT_SIZE * MOST_LISTED;
 
-// The most numbers of a working array.
+/// The most numbers of a working array.
 pub const MOST_WORK: usize = 2 * MOST_POINTS;
 
-// The most bytes that are printed: a line of the sums and 3,200 lines of rectangles.
+/// The most bytes that are printed: a line of the sums and 3,200 lines of rectangles.
 pub const MOST_PRINTED: usize = 153679;
 
-// The most bytes of a sentence.
+/// The most bytes of a sentence.
 pub const MOST_SAID: usize = 200;
 
-// What the program knows at its end: the answer and its place, the point that it names, and how many bytes were read and printed.
-#[derive(Clone, Copy)]
+// The most bytes of a refusal's line.
+const MOST_REFUSED: usize = 64;
+
+/// What the program knows at its end: what it refused, if anything, with the point that this names, or (0, 0); and how many bytes were read
+/// and printed.
+#[derive(Clone, Copy, Debug, PartialEq, Eq)]
+pub struct Outcome {
+    pub refusal: Option<Refusal>,
+    pub point: Point,
+    pub read: usize,
+    pub printed: usize,
+}
+
+/// The same in document 01's numbers: the answer, 0 where nothing is refused, and its place.
+#[derive(Clone, Copy, Debug, PartialEq, Eq)]
 pub struct Report {
     pub answer: u32,
     pub place: u64,
@@ -42,253 +54,239 @@ pub struct Report {
     pub printed: usize,
 }
 
-// ---- Pieces of a line
+impl From<Outcome> for Report {
+    ghost from_gives = { λ outcome report. report ≡ outcome_told outcome };
 
-// Words, and then a number.
-fn put_worded(out: &mut [u8], at: usize, words: &[u8], n: u64) -> usize
-    requires { at + length (worded words.now n) ≤ length out.old }
-    ensures { Wrote out.old at (worded words.now n) result out.new }
-{
-    let next = put_bytes(out, at, words);
-    put_number(out, next, n)
-}
-
-// A number with its sign, and then words.
-fn put_field(out: &mut [u8], at: usize, z: i32, words: &[u8]) -> usize
-    requires { at + length (field z words.now) ≤ length out.old }
-    ensures { Wrote out.old at (field z words.now) result out.new }
-{
-    let next = put_signed(out, at, z);
-    put_bytes(out, next, words)
-}
-
-// ---- Lines
-
-fn put_sums(out: &mut [u8], sums: ForwardAnswer) -> usize
-    requires { length (sums_line (sums_told sums)) ≤ length out.old }
-    ensures { Wrote out.old 0 (sums_line (sums_told sums)) result out.new }
-{
-    let a = put_worded(out, 0, b"rects ", sums.count as u64);
-    let b = put_worded(out, a, b" area ", sums.area);
-    let c = put_worded(out, b, b" edge ", sums.edge);
-    put_bytes(out, c, b"\n")
-}
-
-fn put_refusal(out: &mut [u8], number: u32, place: u64) -> usize
-    requires { length (refusal_line number place) ≤ length out.old }
-    ensures { Wrote out.old 0 (refusal_line number place) result out.new }
-{
-    let a = put_worded(out, 0, b"refused ", number as u64);
-    let b = put_worded(out, a, b" place ", place);
-    put_bytes(out, b, b"\n")
-}
-
-fn put_rect(out: &mut [u8], at: usize, r: Rect) -> usize
-    requires { at + length (rect_line r) ≤ length out.old }
-    ensures { Wrote out.old at (rect_line r) result out.new }
-{
-    let a = put_field(out, at, r.x, b" ");
-    let b = put_field(out, a, r.y, b" ");
-    let c = put_field(out, b, r.w, b" ");
-    put_field(out, c, r.h, b"\n")
-}
-
-// The lines of the first n rectangles.
-fn put_rects(out: &mut [u8], at: usize, rects: &[i32], n: usize) -> usize
-    requires n_in_bounds { rect_size * n ≤ length rects.now }
-    requires rects_in_bounds { at + length (rect_lines (take n (rects_of rects.now))) ≤ length out.old }
-    ensures { Wrote out.old at (rect_lines (take n (rects_of rects.now))) result out.new }
-{
-    let mut next = at;
-    let mut i = 0;
-    while i < n {
-        next = put_rect(out, next, rect_at(rects, i));
-        i += 1;
+    fn from(outcome: Outcome) -> Report {
+        let Outcome {
+            refusal,
+            point,
+            read,
+            printed,
+        } = outcome;
+        let (answer, place) = match refusal {
+            Some(refusal) => (u32::from(refusal.reason), refusal.place),
+            None => (0, 0),
+        };
+        Report {
+            answer,
+            place,
+            point,
+            read,
+            printed,
+        }
     }
-    next
+}
+
+// ---- What is printed
+
+fn add_rect(page: &mut Page<MOST_PRINTED>, r: Rect)
+    requires { length page.old + length (rect_line r) ≤ MOST_PRINTED }
+    ensures { page.new ≡ page.old ++ rect_line r }
+{
+    page.add_signed(r.x);
+    page.add(b" ");
+    page.add_signed(r.y);
+    page.add(b" ");
+    page.add_signed(r.w);
+    page.add(b" ");
+    page.add_signed(r.h);
+    page.add(b"\n");
+}
+
+fn add_sums(page: &mut Page<MOST_PRINTED>, sums: Sums)
+    requires { length page.old + length (sums_line sums) ≤ MOST_PRINTED }
+    ensures { page.new ≡ page.old ++ sums_line sums }
+{
+    page.add(b"rects ");
+    page.add_number(sums.count as u64);
+    page.add(b" area ");
+    page.add_number(sums.area);
+    page.add(b" edge ");
+    page.add_number(sums.edge);
+    page.add(b"\n");
+}
+
+// A list: the sums, and then the rectangles. Its page is lent: to hand back so long a one would copy it twice.
+fn add_list(page: &mut Page<MOST_PRINTED>, sums: Sums, rects: &[i32])
+    requires { length page.old + length (list_lines sums (rects_of rects.now)) ≤ MOST_PRINTED }
+    ensures { page.new ≡ page.old ++ list_lines sums (rects_of rects.now) }
+{
+    add_sums(page, sums);
+    for r in rects_in(rects) {
+        add_rect(page, r);
+    }
+}
+
+fn refusal_page(refusal: Refusal) -> Page<MOST_REFUSED>
+    ensures { result ≡ refusal_line (number_of refusal.reason) refusal.place }
+{
+    let mut page = Page::new();
+    page.add(b"refused ");
+    page.add_number(u64::from(u32::from(refusal.reason)));
+    page.add(b" place ");
+    page.add_number(refusal.place);
+    page.add(b"\n");
+    page
+}
+
+// Puts what is written on a page into an output, if it has room there, and gives how many bytes it has.
+fn print<const N: usize>(page: &Page<N>, out: &mut [u8]) -> usize
+    ensures value { result ≡ length page.now }
+    ensures out_after { out.new ≡ put_at out.old 0 page.now }
+{
+    let bytes = page.bytes();
+    put_bytes(out, 0, bytes);
+    bytes.len()
 }
 
 // ---- The program
 
-// Whether a refusal of the program names a point.
+/// Whether a refusal with this number names a point. It is asked of any number, also of one that no refusal has.
 pub fn names_one(number: u32) -> bool
     ensures { result ≡ names_one number }
 {
-    (number == RANGE) | ((number == ROW) | (number == COLUMN))
+    number == u32::from(Reason::Range)
+        || number == u32::from(Reason::Row)
+        || number == u32::from(Reason::Column)
 }
 
-// The point that a refusal names.
-fn point_named(points: &[i32], number: u32, place: u64) -> Point
-    ensures { result ≡ offender number place (points_of points.now) }
+// The point that a refusal names; (0, 0), if it names none.
+fn point_named(points: &[i32], refusal: Refusal) -> Point
+    ensures { result ≡ offender (number_of refusal.reason) refusal.place (points_of points.now) }
 {
-    if names_one(number) {
-        return point_at(points, place as usize);
+    if names_one(u32::from(refusal.reason)) {
+        return point_at(points, refusal.place as usize);
     }
     origin()
 }
 
-// Prints a refusal, and gives how many bytes it has.
-fn print_refusal(out: &mut [u8], number: u32, place: u64) -> usize
-    ensures value { result ≡ length (refusal_line number place) }
-    ensures out_after { out.new ≡ put_at out.old 0 (refusal_line number place) }
-{
-    let mut line: [u8; 64] = [0; 64];
-    let n = put_refusal(&mut line, number, place);
-    put_bytes(out, 0, &line[..n]);
-    n
-}
-
-fn reported(answer: u32, place: u64, point: Point, read: usize, printed: usize) -> Report
-    ensures { result ≡ record { answer = answer; place = place; point = point; read = read; printed = printed } }
-{
-    Report {
-        answer: answer,
-        place: place,
-        point: point,
-        read: read,
-        printed: printed,
-    }
-}
-
-// Prints a list by way of a buffer with room for it, and gives how many bytes it has.
-fn print_through(lines: &mut [u8], out: &mut [u8], sums: ForwardAnswer, rects: &[i32]) -> usize
-    requires count_in_bounds { rect_size * sums.count ≤ length rects.now }
-    requires rects_in_bounds { length (listed sums rects.now) ≤ length lines.old }
-    ensures value { result ≡ length (listed sums rects.now) }
-    ensures out_after { out.new ≡ put_at out.old 0 (listed sums rects.now) }
-{
-    let at = put_sums(lines, sums);
-    let n = put_rects(lines, at, rects, sums.count);
-    put_bytes(out, 0, &lines[..n]);
-    n
-}
-
-// Prints a list, and gives how many bytes it has.
-fn print_list(out: &mut [u8], sums: ForwardAnswer, rects: &[i32]) -> usize
-    requires count_in_bounds { rect_size * sums.count ≤ length rects.now }
-    requires rects_len_bound { length (listed sums rects.now) ≤ 153_679 }
-    ensures value { result ≡ length (listed sums rects.now) }
-    ensures out_after { out.new ≡ put_at out.old 0 (listed sums rects.now) }
-{
-    let mut lines: [u8; MOST_PRINTED] = [0; MOST_PRINTED];
-    print_through(&mut lines, out, sums, rects)
-}
-
 // The program on the points that were read, from a text of so many bytes.
-fn list(points: &[i32], read: usize, out: &mut [u8]) -> Report
-    ensures { Listed points.now read out.old result out.new }
+fn list(points: &[i32], read: usize, out: &mut [u8]) -> Outcome
+    ensures { Listed points.now read out.old (outcome_told result) out.new }
 {
-    let mut work: [i32; MOST_WORK] = [0; MOST_WORK];
-    let mut rects: [i32; MOST_LIST] = [0; MOST_LIST];
-    let r = forward(points, &mut work, &mut rects);
-    if r.answer == DONE {
-        let n = print_list(out, r, &rects);
-        return reported(DONE, 0, origin(), read, n);
+    let mut work = [0; MOST_WORK];
+    let mut rects = [0; MOST_LIST];
+    match forward(points, &mut work, &mut rects) {
+        Ok(sums) => {
+            let mut page = Page::new();
+            add_list(&mut page, sums, &rects[..RECT_SIZE * sums.count]);
+            Outcome {
+                refusal: None,
+                point: origin(),
+                read,
+                printed: print(&page, out),
+            }
+        }
+        Err(refusal) => Outcome {
+            refusal: Some(refusal),
+            point: point_named(points, refusal),
+            read,
+            printed: print(&refusal_page(refusal), out),
+        },
     }
-    let n = print_refusal(out, r.answer, r.place);
-    reported(
-        r.answer,
-        r.place,
-        point_named(points, r.answer, r.place),
-        read,
-        n,
-    )
 }
 
-// What the program prints for an input, put into `out` if it has room there, and what it knows at its end.
-pub fn answer(input: &[u8], out: &mut [u8]) -> Report
-    ensures { ProgramDone input.now out.old result out.new }
+/// What the program prints for an input, put into `out` if it has room there, and what it knows at its end.
+pub fn answer(input: &[u8], out: &mut [u8]) -> Outcome
+    ensures { ProgramDone input.now out.old (outcome_told result) out.new }
 {
-    let mut points: [i32; MOST_WORK] = [0; MOST_WORK];
-    let r = read_points(input, &mut points);
-    if r.answer == DONE {
-        let end = 2 * r.count;
-        return list(&points[..end], input.len(), out);
+    let mut points = [0; MOST_WORK];
+    match read_points(input, &mut points) {
+        Ok(count) => list(&points[..2 * count], input.len(), out),
+        Err(refusal) => Outcome {
+            refusal: Some(refusal),
+            point: origin(),
+            read: input.len(),
+            printed: print(&refusal_page(refusal), out),
+        },
     }
-    let n = print_refusal(out, r.answer, r.place);
-    reported(r.answer, r.place, origin(), input.len(), n)
 }
 
 // ---- The sentence
 
-fn say_many(out: &mut [u8], read: usize) -> usize
-    requires { 200 ≤ length out.old }
-    ensures { Wrote out.old 0 (many_says read) result out.new }
+fn many_page(read: usize) -> Page<MOST_SAID>
+    ensures { result ≡ many_says read }
 {
-    if MOST_BYTES < read {
-        return put_bytes(out, 0, b"The input is longer than 65536 bytes.\n");
+    let mut page = Page::new();
+    if read > MOST_BYTES {
+        page.add(b"The input is longer than 65536 bytes.\n");
+    } else {
+        page.add(b"The input has more than 4096 lines.\n");
     }
-    put_bytes(out, 0, b"The input has more than 4096 lines.\n")
+    page
 }
 
-fn say_point(out: &mut [u8], place: u64, p: Point) -> usize
-    requires { 200 ≤ length out.old }
-    ensures { Wrote out.old 0 (names_point place p) result out.new }
+// Names a point, and says what is wrong with it.
+fn point_page(place: u64, p: Point, fault: &[u8]) -> Page<MOST_SAID>
+    requires { length fault.now ≤ 100 }
+    ensures { result ≡ names_point place p ++ fault.now }
 {
-    let a = put_worded(out, 0, b"Point ", place);
-    let b = put_bytes(out, a, b" (counted from 0) at (");
-    let c = put_field(out, b, p.x, b", ");
-    put_field(out, c, p.y, b") ")
+    let mut page = Page::new();
+    page.add(b"Point ");
+    page.add_number(place);
+    page.add(b" (counted from 0) at (");
+    page.add_signed(p.x);
+    page.add(b", ");
+    page.add_signed(p.y);
+    page.add(b") ");
+    page.add(fault);
+    page
 }
 
-fn say_fault(out: &mut [u8], at: usize, number: u32) -> usize
-    requires { at + length (point_fault number) ≤ length out.old }
-    ensures { Wrote out.old at (point_fault number) result out.new }
+fn room_page(place: u64) -> Page<MOST_SAID>
+    ensures { result ≡ room_says place }
 {
-    match number {
-        RANGE => put_bytes(
-            out,
-            at,
+    let mut page = Page::new();
+    page.add(b"The list has ");
+    page.add_number(place);
+    page.add(b" rectangles, and there is room for 3200.\n");
+    page
+}
+
+fn line_page(place: u64) -> Page<MOST_SAID>
+    ensures { result ≡ text_says place }
+{
+    let mut page = Page::new();
+    page.add(b"Line ");
+    page.add_number(place);
+    page.add(
+        b" (counted from 0) is not two whole numbers of 32 bits with one space between them and a newline at the end.\n",
+    );
+    page
+}
+
+fn sentence_page(report: Report) -> Page<MOST_SAID>
+    ensures { result ≡ sentence report }
+{
+    let Ok(reason) = Reason::try_from(report.answer) else {
+        return Page::new();
+    };
+    let place = report.place;
+    let point = report.point;
+    match reason {
+        Reason::Range => point_page(
+            place,
+            point,
             b"has a coordinate below -1000000000 or above 1000000000.\n",
         ),
-        ROW => put_bytes(out, at, b"is on a row with an odd number of points.\n"),
-        _ => put_bytes(out, at, b"is in a column with an odd number of points.\n"),
+        Reason::Row => point_page(place, point, b"is on a row with an odd number of points.\n"),
+        Reason::Column => point_page(
+            place,
+            point,
+            b"is in a column with an odd number of points.\n",
+        ),
+        Reason::Many => many_page(report.read),
+        Reason::Room => room_page(place),
+        Reason::Text => line_page(place),
+        _ => Page::new(),
     }
 }
 
-fn say_room(out: &mut [u8], place: u64) -> usize
-    requires { 200 ≤ length out.old }
-    ensures { Wrote out.old 0 (room_says place) result out.new }
+/// The sentence of a report, put into `out` if it has room there: one for a refusal, none for a list. Gives how many bytes were put. A report may
+/// have any number: of one that no refusal has nothing is said.
+pub fn complaint(report: Report, out: &mut [u8]) -> usize
+    ensures { Put out.old 0 (sentence report) result out.new }
 {
-    let a = put_worded(out, 0, b"The list has ", place);
-    put_bytes(out, a, b" rectangles, and there is room for 3200.\n")
-}
-
-fn say_line(out: &mut [u8], place: u64) -> usize
-    requires { 200 ≤ length out.old }
-    ensures { Wrote out.old 0 (text_says place) result out.new }
-{
-    let a = put_worded(out, 0, b"Line ", place);
-    put_bytes(
-        out,
-        a,
-        b" (counted from 0) is not two whole numbers of 32 bits with one space between them and a newline at the end.\n",
-    )
-}
-
-// The sentence, and how many bytes it has.
-fn say(out: &mut [u8], r: Report) -> usize
-    requires { 200 ≤ length out.old }
-    ensures { Wrote out.old 0 (sentence r) result out.new }
-{
-    let number = r.answer;
-    if names_one(number) {
-        let at = say_point(out, r.place, r.point);
-        return say_fault(out, at, number);
-    }
-    match number {
-        MANY => say_many(out, r.read),
-        ROOM => say_room(out, r.place),
-        TEXT => say_line(out, r.place),
-        _ => 0,
-    }
-}
-
-// The sentence of a report, put into `out` if it has room there: one for a refusal, none for a list. Gives how many bytes were put.
-pub fn complaint(r: Report, out: &mut [u8]) -> usize
-    ensures { Put out.old 0 (sentence r) result out.new }
-{
-    let mut said: [u8; MOST_SAID] = [0; MOST_SAID];
-    let n = say(&mut said, r);
-    put_bytes(out, 0, &said[..n])
+    put_bytes(out, 0, sentence_page(report).bytes())
 }

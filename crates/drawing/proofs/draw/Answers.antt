@@ -1,27 +1,52 @@
--- `drawing::draw` meets its contract: what is drawn is the list that forward made.
+-- `drawing::draw` meets its contract: what is drawn is the list that forward made, and none of points that it refuses.
+use Prim.Native.Nat.{◌*◌, ◌≤◌}
 use native.Mathlib.Omega.{arith}
-use mathlib.Core.Path.{◌≡◌, ◌∙◌}
+use mathlib.Core.Path.{◌≡◌, sym, ◌∙◌}
 use lib.ListN.{length, replicate, length-replicate}
+use lib.Seq.{length-take-le}
 use lib.IntN.{pos}
-use Rattle.rule.specs.ForwardCall.{ForwardDone}
+use Rattle.plane.specs.Words.{rect_size}
+use Rattle.rule.specs.ForwardCall.{ForwardDone, forward_told, sums_told}
 use Rattle.rule.proofs.ForwardCall.{forward-leaves}
 use Rattle.text.specs.Program.{most_work, most_list}
-use Rattle.drawing.proofs.Shown.{Made, list-made}
+use Rattle.drawing.proofs.Shown.{Made, list-made, sums-or-none}
 use Rattle.drawing.proofs.draw.Goals as goal
-use Rattle.drawing.proofs.draw.Goals.{After-forward-sums}
+use Rattle.drawing.proofs.draw.Goals.{After-unwrap_or-sums}
 
--- the arrays that forward is lent have the program's lengths
-ran : (c : After-forward-sums) → ForwardDone c.args.points.now (replicate most_work (pos 0)) (replicate most_list (pos 0)) c.forward-sums.result c.forward-sums.new.work c.forward-sums.new.rects
-ran c = c.forward-sums.ensures
+module _ (c : After-unwrap_or-sums) where
+  -- the arrays that forward is lent have the program's lengths
+  ran : ForwardDone c.args.points.now (replicate most_work (pos 0)) (replicate most_list (pos 0)) (forward_told c.forward.result) c.forward.new.work c.forward.new.rects
+  ran = c.forward.ensures
 
-made : (c : After-forward-sums) → Made c.args.points.now c.forward-sums.result c.forward-sums.new.rects
-made c = list-made (ran c) (length-replicate most_work (pos 0)) (length-replicate most_list (pos 0))
+  made : Made c.args.points.now (forward_told c.forward.result) c.forward.new.rects
+  made = list-made ran (length-replicate most_work (pos 0)) (length-replicate most_list (pos 0))
 
-pub put_picture-requires : goal.put_picture-requires
-put_picture-requires c =
-    let f = (goal.at.put_picture-requires c).After-forward-sums in
-    let room : length c.forward-sums.new.rects ≡ most_list = (forward-leaves (ran f)).length-kept ∙ length-replicate most_list (pos 0) in
-    (c.requires.0, omega (arith, (made f).count), omega (arith, (made f).count), c.requires.1)
+  sums : c.unwrap_or-sums.result ≡ sums_told (forward_told c.forward.result)
+  sums = c.unwrap_or-sums.ensures ∙ sums-or-none c.forward.result
+
+  -- the output has room for the list
+  room : rect_size * c.unwrap_or-sums.result.count ≤ length c.forward.new.rects
+  room =
+      let long : length c.forward.new.rects ≡ most_list = (forward-leaves ran).length-kept ∙ length-replicate most_list (pos 0) in
+      rw sums (omega (arith, made.count, long))
+
+pub overflow_mul-rects : goal.overflow_mul-rects
+overflow_mul-rects c =
+    let u = (goal.at.overflow_mul-rects c).After-unwrap_or-sums in
+    rw (sums u) (omega (arith, (made u).count))
+
+pub slice_bounds-rects-end : goal.slice_bounds-rects-end
+slice_bounds-rects-end c = room (goal.at.slice_bounds-rects-end c).After-unwrap_or-sums
+
+pub slice_bounds-add_picture-end : goal.slice_bounds-add_picture-end
+slice_bounds-add_picture-end c = sym (length-take-le _ _ (room (goal.at.slice_bounds-add_picture-end c).After-unwrap_or-sums))
+
+pub add_picture-requires : goal.add_picture-requires
+add_picture-requires c =
+    let u = (goal.at.add_picture-requires c).After-unwrap_or-sums in
+    rw (c.requires.empty, sums u, (made u).list, (made u).sums) (omega (arith, c.requires.room))
 
 pub returns : goal.returns
-returns c = let f = (goal.at.returns c).After-forward-sums in rw ((made f).list, (made f).sums) at c.put_picture.ensures
+returns c =
+    let u = (goal.at.returns c).After-unwrap_or-sums in
+    rw (c.requires.empty, sums u, (made u).list, (made u).sums) at c.add_picture.ensures

@@ -1,11 +1,9 @@
--- The invariant of `drawing::fill`: the template is filled up to place i.
-use Prim.Native.Nat.{◌-◌}
-use lib.ListN.{length}
-use Rattle.drawing.proofs.Filling.{Filling}
+-- The invariant of `drawing::fill`: what is written, and then the rest of the template with the numbers that are left, make the whole.
+use mathlib.Core.Path.{◌≡◌}
+use mathlib.Core.List.{◌++◌}
+use lib.ListN.{drop}
+use Rattle.drawing.specs.Picture.{filled}
 use Rattle.drawing.proofs.fill.Given as goal
 
-abbrev pub invariant-loop-i : goal.invariant-loop-i
-invariant-loop-i l = Filling l.initial.out l.at l.template l.numbers l.out l.next l.used l.i
-
-abbrev pub decreases-loop-i : goal.decreases-loop-i
-decreases-loop-i l = length l.template - l.i
+abbrev pub invariant-loop-b : goal.invariant-loop-b
+invariant-loop-b l = l.page ++ filled (drop l.b-index l.template) l.numbers.rest.now ≡ l.initial.page ++ filled l.template l.numbers-2

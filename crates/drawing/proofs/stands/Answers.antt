@@ -1,25 +1,16 @@
--- `drawing::stands` meets its contract.
-use native.Mathlib.Omega.{arith}
-use mathlib.Core.Path.{refl}
-use mathlib.Core.Bool.{xor}
-use lib.Seq.{take_all}
+-- `drawing::stands` meets its contract: each listing of the point turns the parity.
+use mathlib.Core.Path.{refl, ◌∙◌}
+use mathlib.Core.Bool.{xor, false}
 use borrow.Author.Rules.{rules}
-use Rattle.plane.specs.Lists as Lists
-use Rattle.plane.specs.Words.{points_of}
-use Rattle.plane.proofs.Arrays.{length-points, points-next}
-use Rattle.plane.proofs.Parity.{odd-last-added}
+use Rattle.std.proofs.lemmas.Iterator.Consumers.{YieldsList-from_first, fold_from_yields_List}
+use Rattle.plane.specs.declared.Point.{Point}
+use Rattle.plane.specs.Words.{same, points_of}
+use Rattle.plane.specs.declared.Items.{Items}
+use Rattle.drawing.proofs.Planning.{odd-fold}
 use Rattle.drawing.proofs.stands.Goals as goal
 
-pub loop-i-init : goal.loop-i-init
-unfolding Lists.odd
-loop-i-init c = (search rules, refl)
-
-pub loop-i-preserved : goal.loop-i-preserved
-unfolding xor
-loop-i-preserved c =
-    (search rules, rw (points-next c.args.points.now c.loop-i.i (omega arith), odd-last-added, ← c.loop-i.invariant.1, c.same_point-odd.ensures, c.point_at.ensures))
-
 pub returns : goal.returns
+unfolding xor
 returns c =
-    let a = c.args.points.now in
-    rw (take_all c.loop-i.i (points_of a) (omega (arith, length-points a))) at c.loop-i.invariant.1
+    let ps = points_of c.args.points.now in
+    fold_from_yields_List _ (λ odd q. xor odd (same c.args.p q)) false _ c.fold.ensures.ran (YieldsList-from_first (λ p. p) (λ (s : Items Point). points_of s.rest.now) ps (rw c.points_in.ensures refl)) (λ odd p t q k. search rules) ∙ odd-fold (same c.args.p) ps

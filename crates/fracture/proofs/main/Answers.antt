@@ -12,10 +12,10 @@ filled : (n : ℕ) → n ≤ length {A = ℕ} (replicate n 0)
 filled n = rw (length-replicate {A = ℕ} n 0) (omega arith)
 
 pub slice_bounds-printed-end : goal.slice_bounds-printed-end
-slice_bounds-printed-end c = (prints-all c.answer-report.ensures (filled 153_679)).1
+slice_bounds-printed-end c = (prints-all c.answer-outcome.ensures (filled 153_679)).1
 
 pub slice_bounds-write_output-end : goal.slice_bounds-write_output-end
-slice_bounds-write_output-end c = (prefix_len_of_le _ _ (prints-all c.answer-report.ensures (filled 153_679)).1).1
+slice_bounds-write_output-end c = (prefix_len_of_le _ _ (prints-all c.answer-outcome.ensures (filled 153_679)).1).1
 
 pub slice_bounds-read_input-end : goal.slice_bounds-read_input-end
 slice_bounds-read_input-end c = sym (length-replicate {A = ℕ} 65_537 0)

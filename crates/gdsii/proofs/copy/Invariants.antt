@@ -1,12 +1,7 @@
 -- The invariant of `gdsii::copy`: the first i numbers are copied, and nothing else has changed.
-use Prim.Native.Nat.{◌-◌, ◌≤◌}
 use mathlib.Core.Path.{◌≡◌}
-use lib.ListN.{length}
 use lib.Seq.{paste}
 use Rattle.gdsii.proofs.copy.Given as goal
 
 abbrev pub invariant-loop-i : goal.invariant-loop-i
-invariant-loop-i l = (l.i ≤ length l.numbers) × (length l.out ≡ length l.initial.out) × (l.out ≡ paste l.initial.out 0 l.numbers l.i)
-
-abbrev pub decreases-loop-i : goal.decreases-loop-i
-decreases-loop-i l = length l.numbers - l.i
+invariant-loop-i l = l.out ≡ paste l.initial.out 0 l.numbers l.i

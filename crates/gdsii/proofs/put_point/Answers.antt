@@ -4,7 +4,6 @@ use native.Mathlib.Numerals.{add-one}
 use native.Mathlib.Omega.{arith}
 use mathlib.Core.Path.{sym, ◌∙◌}
 use mathlib.Core.List.{[], ◌∷◌}
-use lib.ListN.{length-set}
 use Rattle.plane.proofs.Bits.{back}
 use Rattle.plane.proofs.AtPlace.{put-with-room, put-without-room, stored-pasted}
 use Rattle.gdsii.proofs.put_point.Goals as goal
@@ -17,6 +16,3 @@ returns-then-i-a c =
 
 pub returns-else-i-a : goal.returns-else-i-a
 returns-else-i-a c = let a = c.args in sym (put-without-room a.a.now (2 * a.i) (a.p.x ∷ a.p.y ∷ []) (omega arith))
-
-pub bounds-a-i-then-i-a : goal.bounds-a-i-then-i-a
-bounds-a-i-then-i-a c = simp length-set (omega arith)

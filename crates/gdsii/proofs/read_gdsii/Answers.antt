@@ -6,7 +6,7 @@ use mathlib.Core.List.{List}
 use lib.ListN.{replicate}
 use lib.IntN.{ℤ, pos}
 use Rattle.plane.proofs.Bits.{back}
-use Rattle.entry.specs.declared.Counted.{Counted}
+use Rattle.entry.specs.Entry.{Counted}
 use Rattle.gdsii.specs.Walk.{read_all}
 use Rattle.gdsii.specs.Call.{scratch_size, ReadDone}
 use Rattle.gdsii.specs.Inner.{ReadSays}
@@ -19,4 +19,4 @@ whole t name layer {out = out} {a} {after} {r} e says sized zeros = record { don
 pub returns : goal.returns
 returns c =
     let a = c.args in
-    whole a.bytes.now a.name.now a.layer (back a.layer (omega arith)) c.read_with-answer.ensures.read_says c.read_with-answer.ensures.scratch_len c.clear.ensures
+    whole a.bytes.now a.name.now a.layer (back a.layer (omega arith)) c.read_with-answer.ensures.read_says c.read_with-answer.ensures.scratch_len (c.fill.ensures.after (λ y e. e))

@@ -1,9 +1,14 @@
 -- `gdsii::turned` meets its contract.
 use mathlib.Core.Path.{sym, ◌∙◌}
+use borrow.Author.Rules.{rules}
+use Rattle.plane.proofs.Bits.{eq-bits}
+use Rattle.boundaries.specs.Boundary.{vertical}
+use Rattle.gdsii.proofs.Shapes.{equal-points}
 use Rattle.gdsii.proofs.turned.Goals as goal
 
-pub returns-then-same_point : goal.returns-then-same_point
-returns-then-same_point c = rw (sym c.same_point.ensures ∙ c.if-same_point.true)
+pub returns-then-eq : goal.returns-then-eq
+returns-then-eq c = rw (sym (equal-points c.args.p c.args.q) ∙ sym c.eq.ensures ∙ c.if-eq.true)
 
-pub returns : goal.returns
-returns c = c.is_vertical.ensures ∙ rw (sym c.same_point.ensures ∙ c.if-same_point.false)
+pub returns-else-eq : goal.returns-else-eq
+unfolding vertical
+returns-else-eq c = rw (sym (equal-points c.args.p c.args.q) ∙ sym c.eq.ensures ∙ c.if-eq.false) (search (rules, eq-bits))

@@ -1,62 +1,38 @@
 -- `numerals::value_of` meets its contract.
-use Prim.Native.Nat.{ℕ, ◌<◌}
-use native.Mathlib.Nat.{pow-suc, pow-le-pow_right}
+use Rattle.std.proofs.Common.{◌≡◌, true, false, [], length, drop, get_or, sym, ◌∙◌, arith}
+use native.Mathlib.Nat.{pow-suc}
 use native.Mathlib.Numerals.{add-one}
-use native.Mathlib.Omega.{arith}
-use mathlib.Core.Path.{◌≡◌, refl, sym, ◌∙◌}
-use mathlib.Core.List.{List, []}
-use lib.ListN.{length, get_or, drop}
+use Rattle.std.proofs.lemmas.Bool.Decides.{nat_tests}
 use lib.Seq.{drop-length}
-use lib.Dec.{lit<}
-use borrow.Author.Rules.{rules}
-use borrow.Author.Tests.{not-true, not-false}
-use Rattle.numerals.specs.Numerals.{are_digits, value_after}
-use Rattle.numerals.proofs.Reading.{digit-range, value-next, digits-next, value-some, value-unsized, value-undigits}
+use Rattle.numerals.specs.Numerals.{is_digit, are_digits, value_after}
+use Rattle.numerals.proofs.Reading.{ascii-digit, digit-range, value-next, digits-next, value-some, value-unsized, value-undigits}
 use Rattle.numerals.proofs.value_of.Goals as goal
-use Rattle.numerals.proofs.value_of.Goals.{After-is_digit, At-loop-i, Else-bytes-gt10}
+use Rattle.numerals.proofs.value_of.Goals.{Then-not-is_ascii_digit}
 
--- the bytes, and the loop's place in a turn
-abbrev all : Else-bytes-gt10 → List ℕ
-all c = c.args.bytes.now
+pub returns-then-is_empty-clause-value : goal.returns-then-is_empty-clause-value
+returns-then-is_empty-clause-value c = rw (value-unsized c.args.digits.now (λ p q. grind (arith, nat_tests)))
 
-abbrev loop-at : After-is_digit → At-loop-i
-loop-at d = (goal.at-After-is_digit d).At-loop-i
+pub returns-then-not-is_ascii_digit-clause-value : goal.returns-then-not-is_ascii_digit-clause-value
+returns-then-not-is_ascii_digit-clause-value c =
+    let l = c.loop-b in
+    let n = digits-next c.args.digits.now l.b-index c.loop-b-test.true in
+    let d : is_digit (get_or c.args.digits.now l.b-index 0) ≡ false = rw (ascii-digit, c.if-not-is_ascii_digit.true) at (sym c.is_ascii_digit.ensures.value) in
+    rw (value-undigits c.args.digits.now (sym l.invariant.2 ∙ n ∙ rw d))
 
-pub returns-then-bytes-eq0 : goal.returns-then-bytes-eq0
-returns-then-bytes-eq0 c = rw (value-unsized c.args.bytes.now (λ p q. omega arith))
+pub loop-b-preserved : goal.loop-b-preserved
+loop-b-preserved c =
+    let l = c.loop-b in
+    let n = digits-next c.args.digits.now l.b-index c.loop-b-test.true in
+    let v = value-next c.args.digits.now l.b-index c.loop-b-test.true l.value in
+    let d : is_digit (get_or c.args.digits.now l.b-index 0) ≡ true = rw (ascii-digit, c.if-not-is_ascii_digit.false) at (sym c.is_ascii_digit.ensures.value) in
+    let r = digit-range _ d in
+    (rw (add-one, pow-suc, c.from.ensures) (omega arith), rw c.from.ensures (sym v ∙ l.invariant.1), rw d at (sym n) ∙ l.invariant.2)
 
-pub returns-then-bytes-gt10 : goal.returns-then-bytes-gt10
-returns-then-bytes-gt10 c = rw (value-unsized c.args.bytes.now (λ p q. omega arith))
-
-pub returns-then-not-is_digit : goal.returns-then-not-is_digit
-returns-then-not-is_digit c =
-    let l = loop-at (goal.at.returns-then-not-is_digit c).After-is_digit in
-    let b = all (goal.at-At-loop-i l).Else-bytes-gt10 in
-    let t = sym c.is_digit.ensures ∙ not-true c.is_digit.result c.if-not-is_digit.true-raw in
-    rw (value-undigits b (sym l.loop-i.invariant.3 ∙ digits-next b l.loop-i.i (omega arith) ∙ rw t))
-
-pub with_digit-value-requires : goal.with_digit-value-requires
-with_digit-value-requires c =
-    (omega (arith, pow-le-pow_right {n = 10} (lit< tt) {i = (loop-at (goal.at.with_digit-value-requires c).After-is_digit).loop-i.i} {j = 9} (omega arith)), sym c.is_digit.ensures ∙ not-false c.is_digit.result c.if-not-is_digit.false-raw)
-
-pub loop-i-preserved : goal.loop-i-preserved
-loop-i-preserved c =
-    let l = loop-at (goal.at.loop-i-preserved c).After-is_digit in
-    let b = all (goal.at-At-loop-i l).Else-bytes-gt10 in
-    let i = l.loop-i.i in
-    let t = sym c.is_digit.ensures ∙ not-false c.is_digit.result c.if-not-is_digit.false-raw in
-    let r = digit-range (get_or b i 0) t in
-    let n : i < length b = omega arith in
-    (search rules, rw (add-one, pow-suc, c.with_digit-value.ensures) (omega arith), rw c.with_digit-value.ensures (sym (value-next b i n _) ∙ l.loop-i.invariant.2), rw t at (sym (digits-next b i n)) ∙ l.loop-i.invariant.3)
-
-pub returns : goal.returns
+pub returns-clause-value : goal.returns-clause-value
 unfolding value_after are_digits
-returns c =
-    let b = all (goal.at.returns c).Else-bytes-gt10 in
-    let e : c.loop-i.i ≡ length b = omega arith in
-    let n : drop c.loop-i.i b ≡ [] = rw e (drop-length b) in
-    let v = c.loop-i.invariant in
-    rw (value-some b (omega arith) (omega arith) (sym v.3 ∙ rw n), ← v.2, n)
-
-pub loop-i-init : goal.loop-i-init
-loop-i-init c = (search rules, omega arith, refl, refl)
+returns-clause-value c =
+    let b = c.args.digits.now in
+    let e : c.loop-b.b-index ≡ length b = omega arith in
+    let v = c.loop-b.invariant in
+    let n : drop c.loop-b.b-index b ≡ [] = rw e (drop-length b) in
+    rw (value-some b (grind (arith, nat_tests)) (omega arith) (sym v.2 ∙ rw n), ← v.1, n)

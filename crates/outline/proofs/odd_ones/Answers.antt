@@ -1,30 +1,28 @@
--- `outline::odd_ones` meets its contract: of the keys in order, equal ones are dropped two by two.
-use native.Mathlib.Nat.{sub-zero}
+-- `outline::odd_ones` meets its contract.
+use Prim.Native.Nat.{ℕ, ◌-◌, ◌<◌}
 use native.Mathlib.Omega.{arith}
-use mathlib.Core.Path.{◌≡◌, ap, ◌∙◌}
-use mathlib.Core.List.{List}
-use Prim.Native.Nat.{ℕ}
-use lib.ListN.{length, take, length-take}
-use lib.Dec.{eqb}
-use Rattle.plane.specs.Lists.{at_start}
-use Rattle.plane.specs.Sorted.{sorted}
-use Rattle.plane.specs.Swaps.{off_pairs}
-use Rattle.plane.proofs.AtStart.{start-taken}
-use Rattle.plane.proofs.Sorted.{least_first, sorted-length}
-use Rattle.plane.proofs.Pairs.{off-length}
-use Rattle.outline.proofs.Climbs.{off-odd-ones}
+use mathlib.Core.List.{Memᴰ as In}
+use lib.ListN.{get_or, take}
+use Rattle.outline.proofs.Cancelling.{cancels-none, cancels-last, cancels-more, cancels-all, all-below, none-kept}
 use Rattle.outline.proofs.odd_ones.Goals as goal
-use Rattle.outline.proofs.odd_ones.Goals.{After-sort}
+use Rattle.outline.proofs.odd_ones.Goals.{then-left-gt0+then-keys-left, else-left-gt0, else-left-gt0-via-then-left-gt0+else-keys-left, else-left-gt0-via-else-left-gt0}
 
--- the first n keys, as they come
-abbrev firsts : After-sort → List ℕ
-firsts c = let r = c.args in take r.n r.keys.now
+pub loop-i-init : goal.loop-i-init
+loop-i-init c = (omega arith, cancels-none c.args.keys.now c.sort.ensures)
 
-in_order : (c : After-sort) → c.sort.new.a ≡ sorted (firsts c)
-in_order c = rw sub-zero at c.sort.ensures
+pub loop-i-preserved : goal.loop-i-preserved
+loop-i-preserved c =
+    let l = c.loop-i in
+    let so-far = l.invariant.1 in
+    let last = l.left - 1 in
+    elim c.if-left-gt0.branch [
+      | then-left-gt0+then-keys-left w ↦ rw (w.keys-is, w.left-is) (omega arith, cancels-last so-far c.loop-i-test.true last (omega arith) (omega arith) w.if-keys-left.true)
+      | else-left-gt0 w ↦
+          let high : (j : ℕ) → In j (take l.left l.keys) → j < get_or c.sort.new.a l.i 0 = elim w.else-left-gt0.branch [
+            | else-left-gt0-via-then-left-gt0+else-keys-left v ↦ all-below so-far c.loop-i-test.true last (omega arith) (omega arith) v.if-keys-left.false
+            | else-left-gt0-via-else-left-gt0 v ↦ none-kept so-far c.loop-i-test.true (omega arith)
+          ] in rw (w.keys-is, w.left-is) (omega arith, cancels-more so-far c.loop-i-test.true l.invariant.0 high)
+    ]
 
-pub returns : goal.returns
-returns c =
-    let n : ℕ = c.args.n in
-    let many = c.cancel_pairs.ensures.value ∙ ap (λ l. length (off_pairs eqb l)) (in_order (goal.at.returns c).After-sort) in
-    let first = c.cancel_pairs.ensures.keys_after ∙ ap (λ l. at_start (off_pairs eqb l) l) (in_order (goal.at.returns c).After-sort) in record { upper_bound = omega (arith, many, off-length eqb (sorted (firsts (goal.at.returns c).After-sort)), sorted-length least_first (firsts (goal.at.returns c).After-sort), length-take n c.args.keys.now); odd_ones = rw (start-taken (off_pairs eqb (sorted (firsts (goal.at.returns c).After-sort))) (sorted (firsts (goal.at.returns c).After-sort)) _ first many) (off-odd-ones (firsts (goal.at.returns c).After-sort)) }
+pub returns-clause-odd_ones : goal.returns-clause-odd_ones
+returns-clause-odd_ones c = cancels-all c.args.keys.now c.sort.ensures (omega arith) c.loop-i.invariant.1

@@ -4,9 +4,8 @@ use native.Mathlib.Numerals.{add-one}
 use native.Mathlib.Omega.{arith}
 use mathlib.Core.Path.{◌≡◌, refl, ap, ◌∙◌}
 use mathlib.Core.List.{List, [], ◌∷◌, ◌++◌, map-append}
-use lib.ListN.{length, get_or, take, length-set, length-map}
+use lib.ListN.{length, get_or, take, length-map}
 use lib.Seq.{take-suc, length-take-le}
-use borrow.Author.Rules.{rules}
 use Rattle.plane.specs.Words.{flat_points}
 use Rattle.plane.specs.Keys.{point_of}
 use Rattle.plane.proofs.Bits.{back}
@@ -24,24 +23,12 @@ next-first ks i h = ap points_of_keys (take-suc ks i 0 h) ∙ map-append point_o
 
 pub loop-i-init : goal.loop-i-init
 unfolding flat_points
-loop-i-init c = (search rules, refl, refl)
+loop-i-init c = refl
 
 pub loop-i-preserved : goal.loop-i-preserved
 loop-i-preserved c =
     let p = c.point_of-p.result in
     let ks = c.args.keys.now in
     let i = c.loop-i.i in
-    let next : points_of_keys (take (i + 1) ks) ≡ points_of_keys (take i ks) ++ (p ∷ []) = rw (add-one, c.point_of-p.ensures) (next-first ks i (omega arith)) in (
-      search rules,
-      simp length-set c.loop-i.invariant.1,
-      rw (back p.x (omega arith), back p.y (omega arith), c.loop-i.invariant.2, next) (start-point (points_of_keys (take i ks)) p c.args.points.now i (length-first ks i (omega arith)) (omega arith)),
-    )
-
-pub returns : goal.returns
-returns c = let e : c.loop-i.i ≡ c.args.n = omega arith in rw (← e) c.loop-i.invariant.2
-
-pub bounds-points-i-in-loop-i : goal.bounds-points-i-in-loop-i
-bounds-points-i-in-loop-i c = simp length-set (omega arith)
-
-pub shape_of-points : goal.shape_of-points
-shape_of-points c = c.loop-i.invariant.1
+    let next : points_of_keys (take (i + 1) ks) ≡ points_of_keys (take i ks) ++ (p ∷ []) = rw (add-one, c.point_of-p.ensures) (next-first ks i (omega arith)) in
+    rw (back p.x (omega arith), back p.y (omega arith), c.loop-i.invariant, next) (start-point (points_of_keys (take i ks)) p c.args.points.now i (length-first ks i (omega arith)) (omega arith))

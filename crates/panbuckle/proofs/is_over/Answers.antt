@@ -3,6 +3,10 @@ use borrow.Author.Rules.{rules}
 use Rattle.panbuckle.specs.Inner.{over_width}
 use Rattle.panbuckle.proofs.is_over.Goals as goal
 
-pub returns : goal.returns
+pub returns-then-k-p-2 : goal.returns-then-k-p-2
 unfolding over_width
-returns c = search rules
+returns-then-k-p-2 c = search rules
+
+pub returns-else-k-p-2 : goal.returns-else-k-p-2
+unfolding over_width
+returns-else-k-p-2 c = search rules

@@ -5,6 +5,7 @@ use lib.ListN.{length}
 use Rattle.plane.specs.declared.Point.{Point}
 use Rattle.rule.specs.Rule.{toggle, toggle_four}
 use Rattle.panbuckle.specs.Inner.{held, cross}
+use Rattle.panbuckle.proofs.Scan.{held-length}
 use Rattle.panbuckle.proofs.Toggling.{Keeps, keeps-first, keeps-room, keeps-toggled}
 use Rattle.panbuckle.proofs.Taking.{begun-lengths}
 use Rattle.panbuckle.proofs.toggle_four.Goals as goal
@@ -28,11 +29,11 @@ points₄ s = toggle (points₃ s) (cross s.args.l s.args.m)
 
 -- they are never more than at the start
 few : (s : Start) → (length (points₁ s) ≤ s.args.n) × (length (points₂ s) ≤ s.args.n) × (length (points₃ s) ≤ s.args.n) × (length (points₄ s) ≤ s.args.n)
-few s = begun-lengths s.requires (cross s.args.k s.args.m) (cross s.args.l s.args.m)
+few s = rw (held-length s.args.n s.args.a.now s.requires.room) at (begun-lengths s.requires.begun (cross s.args.k s.args.m) (cross s.args.l s.args.m))
 
 -- what the array keeps after each toggle
 keeps₀ : (s : Start) → Keeps s.args.n s.args.a.now s.args.a.now s.args.n (points₀ s)
-keeps₀ s = keeps-first s.requires.ready.working
+keeps₀ s = keeps-first s.requires.room
 
 keeps₁ : (c : After-toggled-n1) → let s = (goal.at-After-toggled-n1 c).Start in Keeps s.args.n s.args.a.now c.toggled-n1.new.a c.toggled-n1.result (points₁ s)
 keeps₁ c = let s = (goal.at-After-toggled-n1 c).Start in keeps-toggled (keeps₀ s) s.args.k (few s).0 (c.toggled-n1.ensures.value, c.toggled-n1.ensures.a_after)

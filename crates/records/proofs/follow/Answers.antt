@@ -1,52 +1,52 @@
 -- `records::follow` meets its contract.
-use Prim.Native.Nat.{ℕ, ◌<◌, ◌-◌}
-use native.Mathlib.Omega.{arith}
-use mathlib.Core.Path.{◌≡◌, refl, sym, ap, ◌∙◌}
-use mathlib.Core.Logic.{◌⊎◌, inl, inr}
-use mathlib.Core.Bool.{cond}
-use lib.ListN.{get_or}
-use lib.Dec.{eqb}
-use borrow.Author.Tests.{eq-eqb, ne_eqb}
-use Rattle.records.specs.Format.{order, follow}
-use Rattle.records.proofs.Rows.{skips, follow-none, follow-past, follow-taken, follow-left, skips-most, skips-down}
+use Rattle.std.proofs.Common.{suc, ◌≡◌, ◌<◌, sym, ap, ◌∙◌, arith}
+use Rattle.records.specs.Format.{follow}
+use Rattle.records.specs.Inner.{row_of}
+use Rattle.records.proofs.Rows.{blank, follow-none, follow-past, follow-taken, follow-left, follow-ended}
 use Rattle.records.proofs.follow.Goals as goal
+use Rattle.records.proofs.follow.Goals.{In_ok-checked_sub, In_ok-row}
 
-pub returns-then-at-ge-ROWS : goal.returns-then-at-ge-ROWS
-returns-then-at-ge-ROWS c = sym (follow-past _ _ c.if-at-ge-ROWS.true)
+pub returns-in_err-checked_sub : goal.returns-in_err-checked_sub
+returns-in_err-checked_sub c =
+    let l = c.loop-expected in
+    let first : l.row ≡ 0 = grind arith in
+    rw c.from_residual.ensures (ap row_of (sym (follow-none c.args.kind) ∙ rw first at l.invariant))
 
-pub loop-row-init : goal.loop-row-init
-loop-row-init c = (c.if-at-ge-ROWS.false, refl)
+-- the row's place in the table
+place : (c : In_ok-checked_sub) → c.loop-expected.row ≡ suc c.in_ok-checked_sub.field-0
+place c = grind arith
 
-pub returns-then-row-kind : goal.returns-then-row-kind
-unfolding order
-returns-then-row-kind c =
-    let l = c.loop-row in
-    sym (follow-taken l.row _ (omega arith) l.invariant.0 c.if-row-kind.true) ∙ l.invariant.1
+pub returns-in_err-expected : goal.returns-in_err-expected
+returns-in_err-expected c =
+    let l = c.loop-expected in
+    let p = place (goal.at.returns-in_err-expected c).In_ok-checked_sub in
+    rw c.from_residual-in_err-expected.ensures (ap row_of (sym (follow-past l.row c.args.kind (omega (arith, p, c.in_err-expected.ensures.lookup.3))) ∙ l.invariant))
 
-pub overflow_cast-row-in-loop-row : goal.overflow_cast-row-in-loop-row
-unfolding order
-overflow_cast-row-in-loop-row c = omega (arith, skips-most c.loop-row.row c.loop-row.invariant.0)
+pub returns-then-expected-kind : goal.returns-then-expected-kind
+returns-then-expected-kind c =
+    let l = c.loop-expected in
+    let p = place (goal.at.returns-then-expected-kind c).In_ok-checked_sub in
+    let g = c.in_ok-expected.ensures.lookup.3 in
+    follow-taken c.in_ok-checked_sub.field-0 c.args.kind g.0 (g.1 blank) c.if-expected-kind.true ∙ ap row_of (rw p at l.invariant)
 
--- a row further down, or none, is nearer to the end
-less : (i j : ℕ) → 0 < i → i < 82 → (j ≡ 0) ⊎ (i < j) → cond (eqb j 0) 0 (82 - j) < cond (eqb i 0) 0 (82 - i)
-less i j g h (inl e) = rw (eq-eqb j 0 e, ne_eqb i 0 (λ d. omega arith)) (omega arith)
-less i j g h (inr e) = rw (ne_eqb j 0 (λ d. omega arith), ne_eqb i 0 (λ d. omega arith)) (omega arith)
+pub returns-in_err-row : goal.returns-in_err-row
+returns-in_err-row c =
+    let l = c.loop-expected in
+    let p = place (goal.at.returns-in_err-row c).In_ok-checked_sub in
+    let g = c.in_ok-expected.ensures.lookup.3 in
+    rw c.from_residual-in_err-row.ensures (ap row_of (sym (follow-ended c.in_ok-checked_sub.field-0 c.args.kind g.0 (g.1 blank) c.if-expected-kind.false c.in_err-row.was) ∙ rw p at l.invariant))
 
-pub loop-row-smaller : goal.loop-row-smaller
-unfolding order
-loop-row-smaller c =
-    let l = c.loop-row in
-    let below = l.invariant.0 in
-    less l.row (get_or skips l.row 0) (omega arith) below (skips-down l.row below)
+-- the row that is tried next
+next : (c : In_ok-row) → (follow c.in_ok-row.row c.args.kind ≡ follow c.loop-expected.row c.args.kind) × (c.loop-expected.row < c.in_ok-row.row)
+next c =
+    let p = place (goal.at-In_ok-row c).In_ok-checked_sub in
+    let g = c.in_ok-expected.ensures.lookup.3 in
+    rw p (follow-left c.in_ok-checked_sub.field-0 c.args.kind g.0 (g.1 blank) c.if-expected-kind.false c.in_ok-row.row c.in_ok-row.was)
 
-pub loop-row-preserved : goal.loop-row-preserved
-unfolding order
-loop-row-preserved c =
-    let l = c.loop-row in
-    (skips-most l.row l.invariant.0, sym (follow-left l.row _ (omega arith) l.invariant.0 c.if-row-kind.false) ∙ l.invariant.1)
+pub loop-expected-preserved : goal.loop-expected-preserved
+loop-expected-preserved c = (next (goal.at.loop-expected-preserved c).In_ok-row).0 ∙ c.loop-expected.invariant
 
-pub returns : goal.returns
-returns c =
-    let l = c.loop-row in
-    let end : 0 ≡ l.row = omega arith in
-    sym (follow-none _) ∙ ap (λ i. follow i c.args.kind) end ∙ l.invariant.1
+pub loop-expected-smaller : goal.loop-expected-smaller
+loop-expected-smaller c =
+    let n = next (goal.at.loop-expected-smaller c).In_ok-row in
+    omega (arith, n.1, place (goal.at.loop-expected-smaller c).In_ok-checked_sub, c.in_ok-expected.ensures.lookup.3.0)

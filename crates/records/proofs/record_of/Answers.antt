@@ -1,23 +1,29 @@
 -- `records::record_of` meets its contract.
-use mathlib.Core.Path.{sym, ◌∙◌}
-use Rattle.plane.proofs.Bools.{denied, granted}
-use Rattle.records.proofs.Heads.{whole-size, record-cut, record-bad, record-unfit, record-misplaced, record-good}
+use Rattle.std.proofs.Common.{sym, ◌∙◌, ◌≡◌, arith, Some, None}
+use Rattle.entry.specs.declared.Reason.TheVariants.{Record as Malformed}
+use Rattle.std.proofs.lemmas.Result.{err_from_is_err_and}
+use Rattle.records.proofs.Heads.{whole-size, record-refused, record-unfit, record-misplaced, record-good}
 use Rattle.records.proofs.record_of.Goals as goal
 
+pub returns-in_err-size : goal.returns-in_err-size
+returns-in_err-size c =
+    let p = err_from_is_err_and c.from_residual.result c.from_residual.ensures.1 in
+    rw (p.1, p.2) (record-refused _ _ (sym c.head_of.ensures ∙ c.in_err-size.was))
+
 pub overflow_sub-size : goal.overflow_sub-size
-overflow_sub-size c = (whole-size _ (sym c.head_of.ensures ∙ c.in-Whole.is)).0
+overflow_sub-size c = (whole-size _ (sym c.head_of.ensures ∙ c.in_ok-size.was)).0
 
 pub returns-then-not-fits : goal.returns-then-not-fits
-returns-then-not-fits c = record-unfit _ _ _ _ _ (sym c.head_of.ensures ∙ c.in-Whole.is) (sym c.fits.ensures ∙ denied _ c.if-not-fits.true-raw)
+returns-then-not-fits c = record-unfit _ _ _ (sym c.head_of.ensures ∙ c.in_ok-size.was) (sym c.fits.ensures ∙ c.if-not-fits.true)
 
-pub returns-then-next-eq0 : goal.returns-then-next-eq0
-returns-then-next-eq0 c = record-misplaced _ _ _ _ _ (sym c.head_of.ensures ∙ c.in-Whole.is) (sym c.fits.ensures ∙ granted _ c.if-not-fits.false-raw) _ c.follow-next.ensures c.if-next-eq0.true
+pub returns-in_err-next : goal.returns-in_err-next
+returns-in_err-next c =
+    let p = err_from_is_err_and c.from_residual-in_err-next.result c.from_residual-in_err-next.ensures.1 in
+    let none : c.follow.result ≡ None = grind arith in
+    let bad : c.in_err-next.field-0.0 ≡ Malformed = grind arith in
+    rw (p.1, p.2, bad) (record-misplaced _ _ _ (sym c.head_of.ensures ∙ c.in_ok-size.was) (sym c.fits.ensures ∙ c.if-not-fits.false) (sym c.follow.ensures ∙ none))
 
-pub returns-in-Cut : goal.returns-in-Cut
-returns-in-Cut c = record-cut _ _ (sym c.head_of.ensures ∙ c.in-Cut.is)
-
-pub returns-in-Bad : goal.returns-in-Bad
-returns-in-Bad c = record-bad _ _ (sym c.head_of.ensures ∙ c.in-Bad.is)
-
-pub returns-else-next-eq0 : goal.returns-else-next-eq0
-returns-else-next-eq0 c = record-good _ _ _ _ _ (sym c.head_of.ensures ∙ c.in-Whole.is) (sym c.fits.ensures ∙ granted _ c.if-not-fits.false-raw) _ c.follow-next.ensures c.if-next-eq0.false
+pub returns : goal.returns
+returns c =
+    let some : c.follow.result ≡ Some c.in_ok-next.next = grind arith in
+    record-good _ _ _ (sym c.head_of.ensures ∙ c.in_ok-size.was) (sym c.fits.ensures ∙ c.if-not-fits.false) _ (sym c.follow.ensures ∙ some)

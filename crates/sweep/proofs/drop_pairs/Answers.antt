@@ -5,28 +5,22 @@ use mathlib.Core.Path.{sym, ◌∙◌}
 use lib.ListN.{length}
 use borrow.Author.Rules.{rules}
 use Rattle.plane.specs.Words.{points_of}
-use Rattle.plane.specs.Swaps.{paired_at}
-use Rattle.plane.proofs.Pairs.{Drops, drops-from, drops-both, drops-one, drops-all}
-use Rattle.entry.proofs.Search.{none_before}
+use Rattle.plane.proofs.Pairs.{Drops, drops-none, drops-both, drops-one, drops-all}
 use Rattle.sweep.specs.Inner.{same_place}
 use Rattle.sweep.proofs.drop_pairs.Goals as goal
 use Rattle.sweep.proofs.drop_pairs.Goals.{In-loop-i, Then-is_paired}
 
 pub loop-i-init : goal.loop-i-init
-loop-i-init c =
-    let s = c.args in
-    let order = s.order.now in
-    let h = none_before (length order) (paired_at (same_place (points_of s.points.now)) 0 order) in
-    rw c.first_pair-i.ensures (drops-from (same_place (points_of s.points.now)) order 0 _ h.0 h.1)
+loop-i-init c = drops-none _ _
 
 -- a place that is reached is one of the array
 reached : (c : In-loop-i) → c.loop-i.i < length c.loop-i.order
-reached c = omega (arith, c.loop-i.invariant.same_length, c.loop-i-test.true)
+reached c = c.loop-i-test.true
 
 -- two of equal points are passed
-passed : (c : Then-is_paired) → let s = c.args in Drops (same_place (points_of s.points.now)) s.order.now c.loop-i.left (c.loop-i.i + 2) c.loop-i.order
+passed : (c : Then-is_paired) → let s = c.args in Drops (same_place (points_of s.given.now)) s.order.now c.loop-i.left (c.loop-i.i + 2) c.loop-i.order
 passed c =
-    drops-both _ _ 0 c.loop-i.invariant c.loop-i-test.true (sym c.is_paired.ensures ∙ c.if-is_paired.true)
+    drops-both _ _ 0 c.loop-i.invariant (omega (arith, c.loop-i.invariant.same_length, c.loop-i-test.true)) (sym c.is_paired.ensures ∙ c.if-is_paired.true)
 
 pub overflow_add-i : goal.overflow_add-i
 overflow_add-i c = let most = (passed c).within in search rules
@@ -39,11 +33,11 @@ bounds-order-left c = omega (arith, reached (goal.at.bounds-order-left c).In-loo
 
 pub loop-i-preserved : goal.loop-i-preserved
 loop-i-preserved c =
-    drops-one _ _ 0 c.loop-i.invariant c.loop-i-test.true (sym c.is_paired.ensures ∙ c.if-is_paired.false)
+    drops-one _ _ 0 c.loop-i.invariant (omega (arith, c.loop-i.invariant.same_length, c.loop-i-test.true)) (sym c.is_paired.ensures ∙ c.if-is_paired.false)
 
 pub returns : goal.returns
 returns c =
-    let d = drops-all _ _ (omega (arith, c.loop-i.invariant.within)) c.loop-i.invariant in
+    let d = drops-all _ _ (omega (arith, c.loop-i.invariant.within, c.loop-i.invariant.same_length)) c.loop-i.invariant in
     record { value = d.0; order_after = d.1 }
 
 pub is_paired-requires : goal.is_paired-requires

@@ -1,52 +1,80 @@
--- `text::list` meets its contract: forward's answer is printed, and a list fits.
-use native.Mathlib.Omega.{arith}
-use mathlib.Core.Path.{◌≡◌, ap, ◌∙◌}
-use mathlib.Core.List.{List}
-use lib.ListN.{length, replicate, length-replicate}
+-- `text::list` meets its contract.
+use Rattle.std.proofs.Common.{◌≡◌, ◌≤◌, ◌*◌, List, length, take, Ok, Err, sym, ap, refl, ◌∙◌, arith}
+use lib.ListN.{replicate, length-replicate}
+use lib.Seq.{length-take-le}
 use lib.IntN.{ℤ, pos}
+use Rattle.plane.specs.Words.{rects_of, rect_size}
+use Rattle.plane.proofs.Arrays.{rects-flat}
 use Rattle.entry.specs.Checks.{accepted, refused}
-use Rattle.rule.specs.ForwardCall.{ForwardAccepted, ForwardDone, forward_list, forward_sums}
+use Rattle.entry.specs.Refusals.{number_of}
+use Rattle.rule.specs.ForwardCall.{ForwardAccepted, ForwardDone, forward_list, forward_sums, forward_told}
 use Rattle.rule.proofs.ForwardCall.{forward-accepted, forward-leaves}
-use Rattle.panbuckle.proofs.Kept.{done-told}
+use Rattle.panbuckle.proofs.Kept.{done-told, done-numbers}
+use Rattle.entry.proofs.Reasons.{number-above}
 use Rattle.text.specs.Program.{most_work, most_list, list_lines}
-use Rattle.text.specs.Inner.{says, listed}
+use Rattle.text.specs.Inner.{says}
 use Rattle.text.proofs.Longest.{list-fits}
-use Rattle.text.proofs.Listing.{says-accepted, says-refused, listed-lines}
+use Rattle.text.proofs.Listing.{says-accepted, says-refused}
+use Rattle.text.proofs.list.Goals.{In-Ok, In-Err}
 use Rattle.text.proofs.list.Goals as goal
-use Rattle.text.proofs.list.Goals.{After-forward-r, Then-r-eq-DONE, Else-r-eq-DONE}
 
--- the points that forward is given
-abbrev points : After-forward-r → List ℤ
-points f = f.args.points.now
+module _ (c : In-Ok) where
+  a : List ℤ
+  a = c.args.points.now
 
--- the arrays that it is lent have the program's lengths
-ran : (c : After-forward-r) → ForwardDone (points c) (replicate most_work (pos 0)) (replicate most_list (pos 0)) c.forward-r.result c.forward-r.new.work c.forward-r.new.rects
-ran c = c.forward-r.ensures
+  -- the arrays that forward is lent have the program's lengths
+  ran : ForwardDone c.args.points.now (replicate most_work (pos 0)) (replicate most_list (pos 0)) (forward_told (Ok c.in-Ok.sums)) c.forward.new.work c.forward.new.rects
+  ran = c.in-Ok.ensures
 
-accepts : (c : Then-r-eq-DONE) → says (points (goal.at-Then-r-eq-DONE c).After-forward-r) ≡ accepted
-accepts c = says-accepted (ran (goal.at-Then-r-eq-DONE c).After-forward-r) (length-replicate most_work (pos 0)) (length-replicate most_list (pos 0)) c.if-r-eq-DONE.true
+  accepts : says c.args.points.now ≡ accepted
+  accepts = says-accepted ran (length-replicate most_work (pos 0)) (length-replicate most_list (pos 0)) refl
 
-lines : (c : Then-r-eq-DONE) → let f = (goal.at-Then-r-eq-DONE c).After-forward-r in listed f.forward-r.result f.forward-r.new.rects ≡ list_lines (forward_sums (points f)) (forward_list (points f))
-lines c = listed-lines (ran (goal.at-Then-r-eq-DONE c).After-forward-r) c.if-r-eq-DONE.true
+  -- so what is told and written is the list
+  sums : c.in-Ok.sums ≡ forward_sums c.args.points.now
+  sums = done-told ran refl
 
-refuses : (c : Else-r-eq-DONE) → let f = (goal.at-Else-r-eq-DONE c).After-forward-r in says (points f) ≡ refused f.forward-r.result.answer f.forward-r.result.place
-refuses c = says-refused (ran (goal.at-Else-r-eq-DONE c).After-forward-r) (length-replicate most_work (pos 0)) (length-replicate most_list (pos 0)) c.if-r-eq-DONE.false
+  lines : list_lines c.in-Ok.sums (rects_of (take (rect_size * c.in-Ok.sums.count) c.forward.new.rects)) ≡ list_lines (forward_sums c.args.points.now) (forward_list c.args.points.now)
+  lines = rw (done-numbers ran refl, rects-flat (forward_list c.args.points.now), sums)
 
-pub print_list-n-requires : goal.print_list-n-requires
-print_list-n-requires c =
-    let f = (goal.at.print_list-n-requires c).After-forward-r in
-    let a = points f in
-    let ok : ForwardAccepted a most_work most_list = (forward-accepted a most_work most_list).0 (accepts (goal.at.print_list-n-requires c).Then-r-eq-DONE) in
-    let count : f.forward-r.result.count ≡ (forward_sums a).count = ap (λ s. s.count) (done-told (ran f) c.if-r-eq-DONE.true) in
-    let room : length f.forward-r.new.rects ≡ most_list = (forward-leaves (ran f)).length-kept ∙ length-replicate most_list (pos 0) in
-    record { count_in_bounds = omega (arith, ok.room); rects_len_bound = rw (lines (goal.at.print_list-n-requires c).Then-r-eq-DONE) (list-fits a most_work ok) }
+  -- it was accepted, and has room
+  taken : ForwardAccepted c.args.points.now most_work most_list
+  taken = (forward-accepted c.args.points.now most_work most_list).0 accepts
 
-pub returns-then-r-eq-DONE : goal.returns-then-r-eq-DONE
-returns-then-r-eq-DONE c =
-    let t = (goal.at.returns-then-r-eq-DONE c).Then-r-eq-DONE in
-    record { report = rw (accepts t) (rw (c.origin.ensures, c.print_list-n.ensures.value, lines t) at c.reported.ensures); output = rw (accepts t) (rw (lines t) at c.print_list-n.ensures.out_after) }
+  room : rect_size * c.in-Ok.sums.count ≤ length c.forward.new.rects
+  room =
+      let long : length c.forward.new.rects ≡ most_list = (forward-leaves ran).length-kept ∙ length-replicate most_list (pos 0) in
+      omega (arith, taken.room, ap (λ s. s.count) sums)
 
-pub returns : goal.returns
-returns c =
-    let e = (goal.at.returns c).Else-r-eq-DONE in
-    record { report = rw (refuses e) (rw (c.point_named.ensures, c.print_refusal-n.ensures.value) at c.reported-2.ensures); output = rw (refuses e) c.print_refusal-n.ensures.out_after }
+pub overflow_mul-rects : goal.overflow_mul-rects
+overflow_mul-rects c = let o = (goal.at.overflow_mul-rects c).In-Ok in omega (arith, (taken o).room, ap (λ s. s.count) (sums o))
+
+pub slice_bounds-rects-end : goal.slice_bounds-rects-end
+slice_bounds-rects-end c = room (goal.at.slice_bounds-rects-end c).In-Ok
+
+pub slice_bounds-add_list-end : goal.slice_bounds-add_list-end
+slice_bounds-add_list-end c = sym (length-take-le _ _ (room (goal.at.slice_bounds-add_list-end c).In-Ok))
+
+pub add_list-requires : goal.add_list-requires
+add_list-requires c = let o = (goal.at.add_list-requires c).In-Ok in rw (c.new-page.ensures, lines o) (omega (arith, list-fits c.args.points.now most_work (taken o)))
+
+pub returns-in-Ok : goal.returns-in-Ok
+returns-in-Ok c =
+    let o = (goal.at.returns-in-Ok c).In-Ok in
+    record {
+      report = rw (accepts o, c.origin.ensures, c.print.ensures.value, c.add_list.ensures, c.new-page.ensures, lines o);
+      output = rw (accepts o) (rw (c.add_list.ensures, c.new-page.ensures, lines o) at c.print.ensures.out_after);
+    }
+
+-- anything else is refused
+refuses : (c : In-Err) → says c.args.points.now ≡ refused (number_of c.in-Err.refusal.reason) c.in-Err.refusal.place
+refuses c =
+    let d : ForwardDone c.args.points.now (replicate most_work (pos 0)) (replicate most_list (pos 0)) (forward_told (Err c.in-Err.refusal)) c.forward.new.work c.forward.new.rects = c.in-Err.ensures in
+    says-refused d (length-replicate most_work (pos 0)) (length-replicate most_list (pos 0)) (λ z. omega (arith, number-above c.in-Err.refusal.reason))
+
+pub returns-in-Err : goal.returns-in-Err
+returns-in-Err c =
+    let e = (goal.at.returns-in-Err c).In-Err in
+    record {
+      report = rw (refuses e, c.point_named.ensures, c.print-in-Err.ensures.value, c.refusal_page.ensures);
+      output = rw (refuses e) (rw c.refusal_page.ensures at c.print-in-Err.ensures.out_after);
+    }

@@ -1,0 +1,6 @@
+-- `bigendian::U16BigEndian::write` meets its contract.
+use Rattle.bigendian.proofs.Places.{high-first}
+use Rattle.bigendian.proofs.U16BigEndian.write.Goals as goal
+
+pub returns : goal.returns
+returns c = rw (← high-first, ← c.to_be_bytes.ensures) c.put_bytes.ensures

@@ -77,7 +77,7 @@ pub fn put_number(out: &mut [u8], at: usize, n: u64) -> usize
     put_bytes(out, at, &digits[..k])
 }
 
-/// Puts a number with its sign, as put_bytes does.
+/// Puts a number with its sign, as put_bytes does. It differs from put_number in more than the type: in what is written.
 pub fn put_signed(out: &mut [u8], at: usize, z: i32) -> usize
     ensures { Put out.old at (signed z) result out.new }
 {

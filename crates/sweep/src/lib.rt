@@ -190,7 +190,7 @@ impl Sweep {
         }
     }
 
-    // An end at x: it opens a rectangle, or closes the one that is open.
+    // An end at x: it opens a rectangle, or closes the one that is open. `OneMore` is of the working array too, and so no fact of a sweep alone.
     fn put_end(&mut self, work: &mut [i32], x: i32)
         requires { OneMore self.old (length work.old) }
         ensures value { self.new ≡ end_put self.old x }

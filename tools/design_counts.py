@@ -29,27 +29,23 @@ def lines_with(pattern):
     return found
 
 
-def enums_like_option():
-    """Enums that carry values and have one case for a refusal, or one without any value, beside."""
-    found = []
-    for path, text in SOURCES.items():
-        for name, body in re.findall(r"\benum (\w+)[^{]*\{\n(.*?)^\}", text, re.DOTALL | re.MULTILINE):
-            cases = re.findall(r"^    (\w+)(?:\s*\{(.*?)\}|\((.*?)\))?,", body, re.DOTALL | re.MULTILINE)
-            bare = [case for case in cases if not case[1] and not case[2]]
-            if "answer" in body or (len(cases) > len(bare) > 0):
-                found.append(f"{crate_of(path)}: {name}")
-    return found
+def declared(kind):
+    """The declarations of a kind that have a body of lines: the crate and the name together, and the body."""
+    pattern = re.compile(kind + r" (\w+)[^{;]*\{\n(.*?)^\}", re.DOTALL | re.MULTILINE)
+    return [(f"{crate_of(path)}: {name}", body) for path, text in SOURCES.items() for name, body in pattern.findall(text)]
 
 
-def flags_with_value():
-    """Structs of a flag and something else."""
-    found = []
-    for path, text in SOURCES.items():
-        for name, body in re.findall(r"\bstruct (\w+)[^{;]*\{\n(.*?)^\}", text, re.DOTALL | re.MULTILINE):
-            fields = re.findall(r"^    (?:pub )?(\w+): (.*?),$", body, re.MULTILINE)
-            if len(fields) == 2 and "bool" in [kind for _, kind in fields]:
-                found.append(f"{crate_of(path)}: {name}")
-    return found
+def is_like_option(body):
+    """Whether an enum of this body carries values and has one case for a refusal, or one without any value, beside."""
+    cases = re.findall(r"^    (\w+)(?:\s*\{(.*?)\}|\((.*?)\))?,", body, re.DOTALL | re.MULTILINE)
+    bare = [case for case in cases if not case[1] and not case[2]]
+    return "answer" in body or len(cases) > len(bare) > 0
+
+
+def is_flag_with_value(body):
+    """Whether a struct of this body is a flag and something else."""
+    fields = re.findall(r"^    (?:pub )?(\w+): (.*?),$", body, re.MULTILINE)
+    return len(fields) == 2 and "bool" in [kind for _, kind in fields]
 
 
 def shape_of(parameters, body):
@@ -102,8 +98,8 @@ def companions():
 
 
 LISTS = {
-    "1 enums of the shape of Option or Result": enums_like_option,
-    "1 a flag with a value beside it": flags_with_value,
+    "1 enums of the shape of Option or Result": lambda: [name for name, body in declared(r"\benum") if is_like_option(body)],
+    "1 a flag with a value beside it": lambda: [name for name, body in declared(r"\bstruct") if is_flag_with_value(body)],
     "1 numbers for kinds or refusals": lambda: lines_with(r"\b(answer|number|kind|form|byte)\b: u(8|32)|^(pub )?const [A-Z_0-9]+: u(8|32) = \d+;$"),
     "2 functions alike but for types, sizes, constants": twins,
     "3 loops that are no `for`": lambda: lines_with(r"^\s*(while|loop)\b"),

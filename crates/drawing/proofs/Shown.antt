@@ -23,7 +23,7 @@ use Rattle.rule.specs.declared.Sums.{Sums}
 use Rattle.rule.specs.ForwardCall.{forward_says, forward_answer, forward_out, forward_checks, ForwardDone, forward_list, sums_told, forward_sums, forward_told, ForwardAnswer}
 use Rattle.rule.proofs.ForwardCall.{forward-accepted}
 use Rattle.rule.proofs.Demands.{forward-sums-fit}
-use Rattle.numerals.specs.Inner.{Wrote}
+use Rattle.numerals.proofs.Writing.{Wrote}
 use Rattle.reading.specs.Reading.{ReadDone}
 use Rattle.reading.proofs.Kept.{read_kept, read_done, read-refused}
 use Rattle.text.specs.Program.{most_work, most_list, program_report, most_listed}

@@ -90,9 +90,6 @@ pub record Along (first : Point) (all : List Point) (p : Point) (left : List Poi
   pub last : last_or p left ≡ last_or first all
   pub bent : (flag || slanted (p ∷ left)) ≡ slanted (first ∷ all)
 
-pub along-start : (first : Point) (all : List Point) → Along first all first all false
-along-start first all = record { last = refl; bent = refl }
-
 pub along-next : {first : Point} {all : List Point} {p : Point} {left : List Point} {flag : Bool} → Along first all p left flag → (q : Point) (more : List Point) → left ≡ q ∷ more → Along first all q more (flag || is_slanted p q)
 unfolding last_or slanted edges_of any
 along-next {p = p} {flag = flag} a q more e = record { last = ap (last_or p) (sym e) ∙ a.last; bent = or_assoc flag (is_slanted p q) (slanted (q ∷ more)) ∙ ap (λ (l : List Point). flag || slanted (p ∷ l)) (sym e) ∙ a.bent }

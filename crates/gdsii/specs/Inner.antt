@@ -71,6 +71,7 @@ pub record Ready (t : List ℕ) (c : Cursor) (vs : List Point) (d : Cursor) : Ty
   pub ahead : c.at + head_size + vertex_size * length vs ≤ d.at
   pub within : d.at ≤ length t
 
+-- what the reader finds next can be used: a refusal and no boundary always, and a boundary where it is ready
 abbrev pub Usable : Reader → Cursor → Result (Option Vertices × Cursor) Refusal → Type 0
 Usable s c (Err e) = Unit {0}
 Usable s c (Ok (None, d)) = Unit {0}
@@ -128,6 +129,7 @@ Filled (walked f bs) n a a-after = a-after ≡ put_points a n (handed_on bs)
 unfoldable pub hand_checks : List Point → (area out : ℕ) → List Check
 hand_checks ps area out = MANY most_points (length ps) ∷ RANGE ps ∷ ROW ps ∷ COLUMN ps ∷ whole 17 0 (ltb (cells (marks ps)) area) ∷ ROOM (length ps) (out / 2) ∷ []
 
+-- corners are handed on, or refused, as these checks say
 abbrev pub HandedOn : (points : List ℤ) (area : ℕ) (out : List ℤ) → Counted → (out-after : List ℤ) → Type 0
 HandedOn a area out r out-after = Done (hand_checks (points_of a) area (length out)) (length (points_of a)) a out r out-after
 

@@ -106,11 +106,7 @@ gathers-cut {start} {end = end} {all} {rest} {ks} i l e g =
       parity = λ f. rw (climbs-cut f ks (suc i) e l, lower f rest, lower f all) (g.parity (λ k. ltb k low && f k));
     }
 
--- no key is taken where the odd ones are left alone
-pub takes-odd : {b c : Keys} → c.start ≡ b.start → c.end ≡ b.end → OddOnes b.keys c.keys → Takes [] b c
-takes-odd s e o = record { start = s; takes = λ asked all rest g. rw e (gathers-odd o g) }
-
--- nor where they are cut, and end with the first key that is not kept
+-- no key is taken where they are cut, and end with the first key that is not kept
 pub takes-cut : {b c : Keys} (i : ℕ) → suc i < length c.keys → c.start ≡ b.start → c.end ≡ b.end → OddOnes b.keys c.keys → Takes [] b (record { start = c.start; end = get_or c.keys (suc i) 0; keys = take (suc i) c.keys })
 takes-cut i l s e o = record { start = s; takes = λ asked all rest g. gathers-cut i l o.climbing (gathers-odd o g) }
 

@@ -6,7 +6,7 @@ use mathlib.Core.Bool.{Bool, ◌||◌}
 use mathlib.Core.List.Memᴰ.{head}
 use mathlib.Core.List.Memᴰ.{tail}
 use mathlib.Core.List.{List, [], ◌∷◌, map, Memᴰ as In}
-use lib.ListN.{length, get_or, set}
+use lib.ListN.{length, get_or}
 use Rattle.plane.specs.Lists.{any, sum}
 
 module _ {A B : Type 0} where
@@ -15,12 +15,6 @@ module _ {A B : Type 0} where
   map_at f [] i d e h = absurd (omega arith)
   map_at f (a ∷ l) zero d e h = refl
   map_at f (a ∷ l) (suc i) d e h = map_at f l i d e (omega arith)
-
-  -- the images with one element stored to a place
-  pub map-set : (f : A → B) (l : List A) (i : ℕ) (a : A) → map f (set l i a) ≡ set (map f l) i (f a)
-  map-set f [] i a = refl
-  map-set f (b ∷ l) zero a = refl
-  map-set f (b ∷ l) (suc i) a = ap (λ m. f b ∷ m) (map-set f l i a)
 
   -- a weight summed over the images
   pub sum-map : (w : B → ℕ) (f : A → B) (l : List A) → sum w (map f l) ≡ sum (λ a. w (f a)) l

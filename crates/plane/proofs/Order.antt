@@ -170,12 +170,6 @@ unfolding up dn
 abs-up (pos n) h = omega arith
 abs-up (negsuc n) h = absurd (omega arith)
 
--- and of one that is not positive
-abs-down : (z : ℤ) → up z ≤ dn z → nat_abs z + up z ≡ dn z
-unfolding up dn
-abs-down (pos n) h = omega arith
-abs-down (negsuc n) h = omega arith
-
 -- the distance to a number that is not lower
 pub distance-up : (a b : ℤ) → le_z a b ≡ true → nat_abs (b -ℤ a) + (up a + dn b) ≡ up b + dn a
 distance-up a b h =

@@ -5,8 +5,7 @@ use mathlib.Core.Path.{◌≡◌}
 use mathlib.Core.List.{List, ◌++◌}
 use lib.ListN.{length, replicate}
 use Rattle.numerals.specs.Bytes.{ascii}
-use Rattle.numerals.specs.Inner.{Wrote}
-use Rattle.numerals.proofs.Writing.{wrote, wrote-front, wrote-within, wrote-many}
+use Rattle.numerals.proofs.Writing.{Wrote, wrote, wrote-front, wrote-within, wrote-many}
 use Rattle.entry.proofs.Reasons.{number-few}
 use Rattle.text.specs.declared.Report.{Report}
 use Rattle.text.specs.Program.{outcome_told}

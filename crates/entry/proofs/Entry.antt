@@ -6,12 +6,15 @@ use Prim.Native.Nat.{ℕ, suc, ◌≤◌}
 use native.Mathlib.Omega.{arith}
 use mathlib.Core.List.{List}
 use lib.ListN.{length}
+use Rattle.std.specs.Prelude.{Result}
 use Rattle.plane.specs.Lists.{at_start}
 use Rattle.plane.proofs.AtStart.{start-starts, start-length}
 use Rattle.plane.proofs.Outcomes.{one-outcome}
+use Rattle.entry.specs.declared.Refusal.{Refusal}
 use Rattle.entry.specs.Checks.{Check, Verdict, accepted, refused, verdict}
-use Rattle.entry.specs.Entry.{number_in, place_in, counted, written, Done, Answers, Leaves, Kept, Counted}
+use Rattle.entry.specs.Entry.{number_in, place_in, told, counted, written, Done, Answers, Leaves, Kept, Counted}
 use Rattle.entry.proofs.Verdicts.{verdict-case, Numbers, refused-exactly, refused-number, accepted-exactly}
+use Rattle.entry.proofs.Reasons.{told-apart}
 
 -- ---- A refusal
 
@@ -84,3 +87,7 @@ module _ {A : Type 0} {checks : List Check} {count : ℕ} {result out : List A} 
     -- there is no second outcome
     pub done-one-outcome : {s : Counted} {other : List A} → Done checks count result out s other → (r ≡ s) × (after ≡ other)
     done-one-outcome e = (one-outcome d.answer e.answer, one-outcome d.output e.output)
+
+  -- nor a second result that tells it
+  pub done-one-result : {r s : Result ℕ Refusal} {after other : List A} → Done checks count result out (told r) after → Done checks count result out (told s) other → (r ≡ s) × (after ≡ other)
+  done-one-result {r} {s} d e = let o = done-one-outcome d e in (told-apart r s o.0, o.1)

@@ -1,5 +1,5 @@
 -- The numbers of reasons: each is above 0, which is the answer where nothing is refused, and tells its reason.
-use Prim.Native.Nat.{◌≤◌}
+use Prim.Native.Nat.{ℕ, ◌≤◌}
 use mathlib.Core.Path.{◌≡◌, refl, sym, ap, ◌∙◌}
 use Rattle.std.specs.Prelude.{Result, Ok, Err}
 use Rattle.std.specs.Result.{IsErrAnd}
@@ -11,7 +11,9 @@ use borrow.Author.Tests.{ne_eqb}
 use native.Mathlib.Omega.{arith}
 use Rattle.entry.specs.declared.Reason.{Reason}
 use Rattle.entry.specs.declared.Reason.TheVariants.{Length, Many, Work, Range, Repeated, Row, Column, Room, Flat, Drained, Text, Truncated, Record, Open, Slanted, Absent, Overlap}
+use Rattle.entry.specs.declared.Refusal.{Refusal}
 use Rattle.entry.specs.Refusals.{number_of}
+use Rattle.entry.specs.Entry.{Counted, told}
 
 pub number-above : (r : Reason) → 1 ≤ number_of r
 number-above Length = omega arith
@@ -77,13 +79,30 @@ number-tells Slanted = refl
 number-tells Absent = refl
 number-tells Overlap = refl
 
--- so another reason has another number
+-- so two reasons with one number are one
+number-apart : (r s : Reason) → number_of r ≡ number_of s → r ≡ s
+number-apart r s e = sym (number-tells r) ∙ ap (λ k. get_or reasons k Length) e ∙ number-tells s
+
+-- and another reason has another number
 pub number-other : (r s : Reason) → (r ≡ s → ⊥) → eqb (number_of r) (number_of s) ≡ false
-number-other r s n = ne_eqb (number_of r) (number_of s) (λ e. n (sym (number-tells r) ∙ ap (λ k. get_or reasons k Length) e ∙ number-tells s))
+number-other r s n = ne_eqb (number_of r) (number_of s) (λ e. n (number-apart r s e))
 
 -- no reason has the number 0
 pub number-some : (r : Reason) → number_of r ≡ 0 → ⊥
 number-some r e = absurd (omega (arith, number-above r))
+
+-- ---- The answer that a result tells
+
+-- a refusal is its number and its place
+pub refusal-apart : (e f : Refusal) → number_of e.reason ≡ number_of f.reason → e.place ≡ f.place → e ≡ f
+refusal-apart e f n p = λ i. record { reason = number-apart e.reason f.reason n i; place = p i }
+
+-- two results that tell the same answer are the same
+pub told-apart : (r s : Result ℕ Refusal) → told r ≡ told s → r ≡ s
+told-apart (Ok n) (Ok m) d = ap Ok (λ i. (d i).count)
+told-apart (Ok n) (Err f) d = absurd (number-some f.reason (sym (λ i. (d i).answer)))
+told-apart (Err e) (Ok m) d = absurd (number-some e.reason (λ i. (d i).answer))
+told-apart (Err e) (Err f) d = ap Err (refusal-apart e f (λ i. (d i).answer) (λ i. (d i).place))
 
 -- ---- What `?` passes up
 

@@ -1,5 +1,5 @@
 -- Of a call of forward: its order, what it accepts, its room and its working array.
-use mathlib.Core.Path.{◌≡◌, refl, ap}
+use mathlib.Core.Path.{◌≡◌, refl, sym, ap}
 use mathlib.Core.Logic.Iff
 use mathlib.Core.Logic.{◌↔◌, ◌≢◌, ◌⊎◌, inl, inr}
 use Prim.Native.Nat.{ℕ, ◌*◌, ◌/◌, ◌≤◌, ◌<◌}
@@ -8,6 +8,7 @@ use mathlib.Core.List.{List, [], ◌∷◌}
 use lib.ListN.{length, replicate}
 use lib.IntN.{ℤ, pos}
 use lib.Dec.{eqb}
+use Rattle.std.specs.Prelude.{Result, Ok, Err}
 use borrow.Author.Tests.{eqb-true, ne_eqb}
 use Rattle.plane.specs.Lists.{Starts}
 use Rattle.plane.specs.Words.{points_of, flat_rects, rect_size, most_points}
@@ -15,13 +16,16 @@ use Rattle.plane.proofs.Outcomes.{one-outcome}
 use Rattle.plane.proofs.Arrays.{length-flat-rects}
 use Rattle.plane.proofs.Bools.{cond-case}
 use Rattle.plane.proofs.AtStart.{start-starts}
+use Rattle.entry.specs.declared.Refusal.{Refusal}
 use Rattle.entry.specs.Checks.{Check, numbers_of, Verdict, accepted, refused, verdict}
 use Rattle.entry.specs.Entry.{number_in, Answers, Leaves}
 use Rattle.entry.proofs.Verdicts.{AllClear, verdict-case, refused-exactly, accepted-clear, clear-append, verdict-append, refused-number, lacks-room}
 use Rattle.entry.proofs.Entry.{Numbered, accepts, answers, leaves, refused-is}
+use Rattle.entry.proofs.Reasons.{number-some, refusal-apart}
+use Rattle.rule.specs.declared.Sums.{Sums}
 use Rattle.rule.specs.Rows.{ROOM, balance_checks}
 use Rattle.rule.specs.Working.{work_of}
-use Rattle.rule.specs.ForwardCall.{forward_list, forward_checks, ForwardAccepted, forward_answer, sums_told, forward_out, drained, forward_work, ForwardDone, input_checks, ForwardAnswer}
+use Rattle.rule.specs.ForwardCall.{forward_list, forward_checks, ForwardAccepted, forward_answer, forward_told, sums_told, forward_out, drained, forward_work, ForwardDone, input_checks, ForwardAnswer}
 use Rattle.rule.proofs.Rows.{length-clear, many-clear, work-clear, room-clear, balance-clear}
 use Rattle.rule.proofs.Working.{padded-none, work-length}
 
@@ -136,6 +140,15 @@ module _ (a work : List ℤ) (out : ℕ) where
       go accepted h g = work-length (length a / 2) [] work (omega arith) (h refl)
       go (refused k p) h g = cond-case (λ (l : List ℤ). length l ≡ length work) (eqb k 8) (λ e. work-length (length a / 2) [] work (omega arith) (g p (ap (λ m. refused m p) (eqb-true k 8 e)))) (λ e. refl)
 
+-- ---- The answer that a result tells
+
+-- two results that tell the same answer are the same
+pub forward-told-apart : (r s : Result Sums Refusal) → forward_told r ≡ forward_told s → r ≡ s
+forward-told-apart (Ok a) (Ok b) d = ap Ok (λ i. sums_told (d i))
+forward-told-apart (Ok a) (Err f) d = absurd (number-some f.reason (sym (λ i. (d i).answer)))
+forward-told-apart (Err e) (Ok b) d = absurd (number-some e.reason (λ i. (d i).answer))
+forward-told-apart (Err e) (Err f) d = ap Err (refusal-apart e f (λ i. (d i).answer) (λ i. (d i).place))
+
 -- ---- Whoever meets its contract
 
 module _ {a work out : List ℤ} {r : ForwardAnswer} {work-after out-after : List ℤ} (d : ForwardDone a work out r work-after out-after) where
@@ -179,3 +192,7 @@ module _ {a work out : List ℤ} {r : ForwardAnswer} {work-after out-after : Lis
   -- and has no second outcome
   pub forward-one-outcome : {s : ForwardAnswer} {w o : List ℤ} → ForwardDone a work out s w o → (r ≡ s) × (work-after ≡ w) × (out-after ≡ o)
   forward-one-outcome e = (one-outcome d.answer e.answer, one-outcome d.working e.working, one-outcome d.output e.output)
+
+-- nor a second result that tells it
+pub forward-one-result : {a work out : List ℤ} {r s : Result Sums Refusal} {v w o p : List ℤ} → ForwardDone a work out (forward_told r) v o → ForwardDone a work out (forward_told s) w p → (r ≡ s) × (v ≡ w) × (o ≡ p)
+forward-one-result {r = r} {s = s} d e = let l = forward-one-outcome d e in (forward-told-apart r s l.0, l.1, l.2)

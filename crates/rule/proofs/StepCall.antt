@@ -1,5 +1,5 @@
 -- Of a call of step: its order, what it accepts, and what it leaves.
-use mathlib.Core.Path.{◌≡◌, refl}
+use mathlib.Core.Path.{◌≡◌, refl, ap}
 use mathlib.Core.Logic.Iff
 use mathlib.Core.Logic.{◌↔◌, ◌≢◌}
 use Prim.Native.Nat.{ℕ, ◌≤◌}
@@ -8,18 +8,23 @@ use mathlib.Core.List.{List, [], ◌∷◌}
 use lib.ListN.{length, take, length-take}
 use lib.IntN.{ℤ}
 use borrow.Author.Tests.{le-ltb}
+use Rattle.std.specs.Prelude.{Result, Ok, Err}
 use Rattle.plane.specs.declared.Point.{Point}
 use Rattle.plane.specs.Words.{points_of, most_points}
 use Rattle.plane.proofs.Arrays.{length-points}
 use Rattle.plane.proofs.Outcomes.{one-outcome}
+use Rattle.entry.specs.declared.Refusal.{Refusal}
+use Rattle.entry.specs.Refusals.{number_of}
 use Rattle.entry.specs.Checks.{numbers_of, Verdict, accepted, refused, judged, verdict}
 use Rattle.entry.specs.Entry.{number_in, place_in, Answers, Leaves}
 use Rattle.entry.proofs.Verdicts.{AllClear, accepted-clear}
 use Rattle.entry.proofs.Entry.{Numbered, accepts, answers, leaves}
+use Rattle.entry.proofs.Reasons.{refusal-apart}
+use Rattle.rule.specs.declared.Step.{Step}
 use Rattle.rule.specs.Rule.{Taken}
 use Rattle.rule.specs.Rows.{point_checks}
 use Rattle.rule.specs.Working.{padded, work_of}
-use Rattle.rule.specs.StepCall.{step_taken, step_checks, StepAccepted, step_says, step_answer, step_work, StepDone, step_number, step_place, step_values, StepAnswer, Rectangle, Refused}
+use Rattle.rule.specs.StepCall.{step_taken, step_checks, StepAccepted, step_told, step_says, step_answer, step_work, StepDone, step_number, step_place, step_values, StepAnswer, Rectangle, Refused}
 use Rattle.rule.proofs.Rows.{many-clear, work-clear, drained-clear, points-clear}
 use Rattle.rule.proofs.Working.{padded-length}
 use Rattle.rule.proofs.Steps.{accepted-step}
@@ -81,6 +86,21 @@ module _ (work : List ℤ) (n : ℕ) where
   unfolding step_answer step_work work_of
   taken_step acc = rw (step-accepted.1 acc) (refl, refl)
 
+-- ---- The answer that a result tells
+
+-- two results that tell the same answer are the same
+pub step-told-apart : (r s : Result Step Refusal) → step_told r ≡ step_told s → r ≡ s
+step-told-apart (Ok a) (Ok b) d =
+    let x : a.rect ≡ b.rect = cc in
+    let n : a.count ≡ b.count = cc in
+    λ i. Ok (record { rect = x i; count = n i })
+step-told-apart (Ok a) (Err f) d = cc
+step-told-apart (Err e) (Ok b) d = cc
+step-told-apart (Err e) (Err f) d =
+    let n : number_of e.reason ≡ number_of f.reason = cc in
+    let p : e.place ≡ f.place = cc in
+    ap Err (refusal-apart e f n p)
+
 -- ---- Whoever meets its contract
 
 module _ {work : List ℤ} {n : ℕ} {r : StepAnswer} {work-after : List ℤ} (d : StepDone work n r work-after) where
@@ -109,6 +129,10 @@ module _ {work : List ℤ} {n : ℕ} {r : StepAnswer} {work-after : List ℤ} (d
   -- and has no second outcome
   pub step-one-outcome : {s : StepAnswer} {other : List ℤ} → StepDone work n s other → (r ≡ s) × (work-after ≡ other)
   step-one-outcome e = (one-outcome d.answer e.answer, one-outcome d.working e.working)
+
+-- nor a second result that tells it
+pub step-one-result : {work : List ℤ} {n : ℕ} {r s : Result Step Refusal} {v w : List ℤ} → StepDone work n (step_told r) v → StepDone work n (step_told s) w → (r ≡ s) × (v ≡ w)
+step-one-result {r = r} {s = s} d e = let o = step-one-outcome d e in (step-told-apart r s o.0, o.1)
 
 -- ---- With no points left
 

@@ -1,24 +1,28 @@
 -- What the program promises, of whatever meets its contract.
 use Prim.Native.Nat.{ℕ, suc, ◌≤◌}
 use native.Mathlib.Omega.{arith}
-use mathlib.Core.Path.{◌≡◌, ap, ◌∙◌, sym}
+use mathlib.Core.Path.{◌≡◌, refl, ap, ◌∙◌, sym}
 use mathlib.Core.Logic.{◌≢◌}
 use mathlib.Core.List.{List}
 use lib.ListN.{length, take}
+use Rattle.std.specs.Prelude.{Option, None, Some}
 use Rattle.plane.specs.Remaining.{Balanced}
 use Rattle.plane.proofs.Outcomes.{one-outcome}
 use Rattle.plane.proofs.Arrays.{points-flat}
 use Rattle.plane.proofs.AtPlace.{pasted_length, pasted-front}
+use Rattle.entry.specs.declared.Refusal.{Refusal}
 use Rattle.entry.specs.Checks.{verdict}
 use Rattle.entry.specs.Entry.{number_in, Answers}
 use Rattle.entry.proofs.Entry.{answers, accepts}
 use Rattle.entry.proofs.Verdicts.{verdict-case, refused-exactly, refused-number}
+use Rattle.entry.proofs.Reasons.{number-some, refusal-apart}
 use Rattle.rule.specs.Rows.{balance_checks}
 use Rattle.rule.specs.ForwardCall.{input_checks, forward_checks, forward_sums, forward_list}
 use Rattle.numerals.proofs.Putting.{put-made}
 use Rattle.reading.specs.Reading.{points_read, text_checks}
+use Rattle.text.specs.declared.Outcome.{Outcome}
 use Rattle.text.specs.declared.Report.{Report}
-use Rattle.text.specs.Program.{program_checks, list_lines, refusal_line, program_prints, program_report, ProgramDone, numbers_read}
+use Rattle.text.specs.Program.{program_checks, list_lines, refusal_line, answer_told, place_told, outcome_told, program_prints, program_report, ProgramDone, numbers_read}
 use Rattle.text.proofs.Checks.{program-accepts, program-numbered}
 use Rattle.text.proofs.Longest.{longest-fits}
 
@@ -59,3 +63,20 @@ module _ {t out : List ℕ} {r : Report} {after : List ℕ} (d : ProgramDone t o
   -- and has no second outcome
   pub program-one-outcome : {s : Report} {other : List ℕ} → ProgramDone t out s other → (r ≡ s) × (after ≡ other)
   program-one-outcome e = (one-outcome d.report e.report, one-outcome d.output e.output)
+
+-- ---- The report that an outcome tells
+
+-- two refusals, or none, with the same number and place are the same
+refusals-apart : (e f : Option Refusal) → answer_told e ≡ answer_told f → place_told e ≡ place_told f → e ≡ f
+refusals-apart None None n p = refl
+refusals-apart None (Some f) n p = absurd (number-some f.reason (sym n))
+refusals-apart (Some e) None n p = absurd (number-some e.reason n)
+refusals-apart (Some e) (Some f) n p = ap Some (refusal-apart e f n p)
+
+-- two outcomes that tell the same report are the same
+pub outcome-told-apart : (a b : Outcome) → outcome_told a ≡ outcome_told b → a ≡ b
+outcome-told-apart a b d = λ i. record { refusal = refusals-apart a.refusal b.refusal (λ j. (d j).answer) (λ j. (d j).place) i; point = (d i).point; read = (d i).read; printed = (d i).printed }
+
+-- so nothing that meets its contract has a second one
+pub program-one-result : {t out : List ℕ} {a b : Outcome} {after other : List ℕ} → ProgramDone t out (outcome_told a) after → ProgramDone t out (outcome_told b) other → (a ≡ b) × (after ≡ other)
+program-one-result {a = a} {b = b} d e = let o = program-one-outcome d e in (outcome-told-apart a b o.0, o.1)

@@ -2,8 +2,8 @@
 // What is said of a call is in specs/.
 #![tactic(auto)]
 
-ghost use Rattle.std.specs.Prelude.{◌≡◌};
-ghost use Rattle.entry.specs.Refusals.{number_of, IsNumbered};
+ghost use Rattle.std.specs.Prelude.{◌≡◌, Some};
+ghost use Rattle.entry.specs.Refusals.{number_of, IsNumbered, refusal_text, unknown_text};
 
 use std::error::Error;
 use std::fmt;
@@ -72,6 +72,8 @@ impl From<Reason> for u32 {
 pub struct UnknownReason(pub u32);
 
 impl fmt::Display for UnknownReason {
+    ghost output = { λ unknown. Some (unknown_text unknown) };
+
     fn fmt<W: fmt::Write>(&self, f: &mut fmt::Formatter<W>) -> fmt::Result {
         write!(f, "no refusal has number {}", self.0)
     }
@@ -117,6 +119,8 @@ pub struct Refusal {
 }
 
 impl fmt::Display for Refusal {
+    ghost output = { λ refusal. Some (refusal_text refusal) };
+
     fn fmt<W: fmt::Write>(&self, f: &mut fmt::Formatter<W>) -> fmt::Result {
         let number = u32::from(self.reason);
         let place = self.place;

@@ -2,7 +2,8 @@
 // What is said of a call is in specs/.
 #![tactic(auto)]
 
-ghost use Rattle.std.specs.Prelude.{◌≡◌, Some};
+ghost use Rattle.std.specs.Prelude.{◌≡◌, Some, nat_eq};
+ghost use Rattle.std.specs.List.{find};
 ghost use Rattle.entry.specs.Refusals.{number_of, IsNumbered, refusal_text, unknown_text};
 
 use std::error::Error;
@@ -59,6 +60,27 @@ impl Reason {
     }
 }
 
+// Every reason.
+const REASONS: [Reason; 17] = [
+    Reason::Length,
+    Reason::Many,
+    Reason::Work,
+    Reason::Range,
+    Reason::Repeated,
+    Reason::Row,
+    Reason::Column,
+    Reason::Room,
+    Reason::Flat,
+    Reason::Drained,
+    Reason::Text,
+    Reason::Truncated,
+    Reason::Record,
+    Reason::Open,
+    Reason::Slanted,
+    Reason::Absent,
+    Reason::Overlap,
+];
+
 impl From<Reason> for u32 {
     ghost from_gives = { λ reason number. number ≡ number_of reason };
 
@@ -81,6 +103,16 @@ impl fmt::Display for UnknownReason {
 
 impl Error for UnknownReason {}
 
+// The first of some reasons that has a number.
+fn with_number(reasons: &[Reason], number: u32) -> Option<Reason>
+    ensures { result ≡ find (λ reason. nat_eq (number_of reason) number) reasons.now }
+{
+    reasons
+        .iter()
+        .copied()
+        .find(|reason| u32::from(*reason) == number)
+}
+
 // No derive gives the reason of a number.
 impl TryFrom<u32> for Reason {
     type Error = UnknownReason;
@@ -88,26 +120,7 @@ impl TryFrom<u32> for Reason {
     ghost try_from_gives = { IsNumbered };
 
     fn try_from(number: u32) -> Result<Self, UnknownReason> {
-        match number {
-            1 => Ok(Reason::Length),
-            2 => Ok(Reason::Many),
-            3 => Ok(Reason::Work),
-            4 => Ok(Reason::Range),
-            5 => Ok(Reason::Repeated),
-            6 => Ok(Reason::Row),
-            7 => Ok(Reason::Column),
-            8 => Ok(Reason::Room),
-            9 => Ok(Reason::Flat),
-            10 => Ok(Reason::Drained),
-            11 => Ok(Reason::Text),
-            12 => Ok(Reason::Truncated),
-            13 => Ok(Reason::Record),
-            14 => Ok(Reason::Open),
-            15 => Ok(Reason::Slanted),
-            16 => Ok(Reason::Absent),
-            17 => Ok(Reason::Overlap),
-            _ => Err(UnknownReason(number)),
-        }
+        with_number(&REASONS, number).ok_or(UnknownReason(number))
     }
 }
 

@@ -13,7 +13,7 @@ use Rattle.entry.specs.declared.Reason.{Reason}
 use Rattle.entry.specs.declared.Reason.TheVariants.{Length, Many, Work, Range, Repeated, Row, Column, Room, Flat, Drained, Text, Truncated, Record, Open, Slanted, Absent, Overlap}
 use Rattle.entry.specs.declared.Refusal.{Refusal}
 use Rattle.entry.specs.Refusals.{number_of}
-use Rattle.entry.specs.Entry.{Counted, told}
+use Rattle.entry.specs.Entry.{told}
 
 pub number-above : (r : Reason) → 1 ≤ number_of r
 number-above Length = omega arith

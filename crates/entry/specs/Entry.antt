@@ -1,6 +1,7 @@
 -- What an entry point answers and leaves, of what its checks say, and what that comes to for its caller.
 use Rattle.std.specs.Prelude.{ℕ, suc, ◌≡◌, ◌≢◌, ◌↔◌, List, length, Result, Ok, Err}
 use Rattle.plane.specs.Lists.{at_start, Starts}
+use Rattle.entry.specs.declared.Counted.{Counted as Answered}
 use Rattle.entry.specs.declared.Refusal.{Refusal}
 use Rattle.entry.specs.Checks.{Check, FirstGiven, Verdict, accepted, refused, verdict}
 use Rattle.entry.specs.Refusals.{number_of}
@@ -22,11 +23,9 @@ abbrev pub place_in : Verdict → ℕ
 place_in accepted = 0
 place_in (refused k p) = p
 
--- what one that counts answers: answer, place and count
-pub record Counted : Type 0 where
-  pub answer : ℕ
-  pub place : ℕ
-  pub count : ℕ
+-- what one that counts answers, as the code has it: answer, place and count
+abbrev pub Counted : Type 0
+Counted = Answered
 
 -- the answer that a result tells: with a count 0 and place 0, and with a refusal its number and place
 abbrev pub told : Result ℕ Refusal → Counted

@@ -4,6 +4,8 @@
 
 ghost use Rattle.std.specs.Prelude.{◌≡◌, Some, nat_eq};
 ghost use Rattle.std.specs.List.{find};
+ghost use Rattle.entry.specs.Checks.{accepted, refused};
+ghost use Rattle.entry.specs.Entry.{counted, told};
 ghost use Rattle.entry.specs.Refusals.{number_of, IsNumbered, refusal_text, unknown_text};
 
 use std::error::Error;
@@ -142,3 +144,52 @@ impl fmt::Display for Refusal {
 }
 
 impl Error for Refusal {}
+
+// ---- The answer of one that counts
+
+/// The answer's number where nothing is refused.
+pub const DONE: u32 = 0;
+
+/// What one that counts answers, in the documents' numbers. The count is of points, rectangles, lines or bytes, and 0 on a refusal.
+#[derive(Clone, Copy, Debug, PartialEq, Eq)]
+pub struct Counted {
+    pub answer: u32,
+    pub place: u64,
+    pub count: usize,
+}
+
+// A function `refusal` of the crate would differ from the type `Refusal` in case alone.
+impl Counted {
+    /// The answer where nothing is refused.
+    pub fn done(count: usize) -> Counted
+        ensures { result ≡ counted accepted count }
+    {
+        Counted {
+            answer: DONE,
+            place: 0,
+            count,
+        }
+    }
+
+    /// The answer of a refusal: any number at any place.
+    pub fn refusal(answer: u32, place: u64) -> Counted
+        ensures { result ≡ counted (refused answer place) 0 }
+    {
+        Counted {
+            answer,
+            place,
+            count: 0,
+        }
+    }
+}
+
+impl From<Result<usize, Refusal>> for Counted {
+    ghost from_gives = { λ answer counted. counted ≡ told answer };
+
+    fn from(answer: Result<usize, Refusal>) -> Counted {
+        match answer {
+            Ok(count) => Counted::done(count),
+            Err(Refusal { reason, place }) => Counted::refusal(u32::from(reason), place),
+        }
+    }
+}

@@ -7,15 +7,12 @@ ghost use Rattle.entry.specs.Entry.{told};
 ghost use Rattle.rule.specs.ForwardCall.{forward_told};
 ghost use Rattle.panbuckle_c.specs.Face.{Told, forward_numbers, counted_numbers, ForwardCalled, BackwardCalled, StepCalled, ReadCalled, version};
 
-use entry::Refusal;
+use entry::{Counted, DONE, Refusal};
 use plane::Rect;
 use rule::Sums;
 
 /// The face's version, which rises by one when a program that was built with an older header would go wrong.
 pub const VERSION: u32 = 3;
-
-// The answer's number for C where nothing is refused.
-const DONE: u32 = 0;
 
 // ---- The numbers of an answer, by a function for each size of array that the C interface has
 
@@ -23,17 +20,13 @@ const DONE: u32 = 0;
 fn tell_count(res: &mut [u64; 3], answer: Result<usize, Refusal>) -> u32
     ensures { Told (counted_numbers (told answer)) result res.new }
 {
-    match answer {
-        Ok(count) => {
-            *res = [u64::from(DONE), 0, count as u64];
-            DONE
-        }
-        Err(Refusal { reason, place }) => {
-            let number = u32::from(reason);
-            *res = [u64::from(number), place, 0];
-            number
-        }
-    }
+    let Counted {
+        answer,
+        place,
+        count,
+    } = Counted::from(answer);
+    *res = [u64::from(answer), place, count as u64];
+    answer
 }
 
 // Those of forward's. Gives the first.

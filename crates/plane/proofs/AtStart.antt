@@ -2,9 +2,9 @@
 use Prim.Native.Nat.{ℕ, ◌+◌, ◌-◌, ◌*◌, ◌≤◌, ◌<◌}
 use native.Mathlib.Omega.{arith}
 use native.Mathlib.Numerals.{add-one}
-use mathlib.Core.Path.{◌≡◌, sym, ap}
+use mathlib.Core.Path.{◌≡◌, sym, ap, subst, ◌∙◌}
 use mathlib.Core.List.{List, [], ◌∷◌, ◌++◌, append-nil, append_assoc}
-use lib.ListN.{length, take, drop, set, length-append, length-take, length-drop, take-append-drop}
+use lib.ListN.{length, take, drop, set, replicate, length-append, length-take, length-drop, length-replicate, take-append-drop, replicate-append-replicate}
 use lib.Seq.{take-length, drop-length, take-append_seam, drop-append_seam, drop-append-add, take_at, drop_at, drop-drop, sets, sets-eq}
 use lib.IntN.{ℤ}
 use Rattle.plane.specs.declared.Point.{Point}
@@ -42,6 +42,13 @@ module _ {A : Type 0} where
       let rest : List A = drop (length items) before in
       let n : length (items ++ rest) - i ≡ length rest = omega (arith, length-append items rest) in
       rw (n, take_at items rest i e, drop_at items rest i e, take-length rest, drop-length rest, append-nil (more ++ drop (length more) rest), drop-drop (length more) (length items) before, length-append items more, append_assoc)
+
+  -- one element after so many of the same is one more of them
+  pub start-filled : (before : List A) (i : ℕ) (a : A) → i < length before → set (at_start (replicate i a) before) i a ≡ at_start (replicate (i + 1) a) before
+  start-filled before i a h =
+      let filled : List A = replicate i a in
+      let e : length filled ≡ i = length-replicate i a in
+      subst (λ (j : ℕ). set (at_start filled before) j a ≡ at_start (filled ++ (a ∷ [])) before) e (start-more filled (a ∷ []) before (omega arith)) ∙ ap (λ (l : List A). at_start l before) (replicate-append-replicate i 1 a)
 
 -- a point stored after points is one more of them
 pub start-point : (ps : List Point) (p : Point) (before : List ℤ) (i : ℕ) → length ps ≡ i → 2 * i + 1 < length before → set (set (at_start (flat_points ps) before) (2 * i) p.x) (2 * i + 1) p.y ≡ at_start (flat_points (ps ++ (p ∷ []))) before

@@ -170,6 +170,12 @@ unfolding up dn
 abs-up (pos n) h = omega arith
 abs-up (negsuc n) h = absurd (omega arith)
 
+-- and of one that is not positive
+abs-down : (z : ℤ) → up z ≤ dn z → nat_abs z + up z ≡ dn z
+unfolding up dn
+abs-down (pos n) h = omega arith
+abs-down (negsuc n) h = omega arith
+
 -- the distance to a number that is not lower
 pub distance-up : (a b : ℤ) → le_z a b ≡ true → nat_abs (b -ℤ a) + (up a + dn b) ≡ up b + dn a
 distance-up a b h =
@@ -177,6 +183,14 @@ distance-up a b h =
     let t = far-side a b in
     let d : dn (b -ℤ a) ≤ up (b -ℤ a) = omega order in
     omega (order, abs-up (b -ℤ a) d)
+
+-- and to one that is not higher
+pub distance-down : (a b : ℤ) → le_z b a ≡ true → nat_abs (b -ℤ a) + (up b + dn a) ≡ up a + dn b
+distance-down a b h =
+    let s = add-up a (b -ℤ a) in
+    let t = far-side a b in
+    let d : up (b -ℤ a) ≤ dn (b -ℤ a) = omega order in
+    omega (order, abs-down (b -ℤ a) d)
 
 -- one less
 pub pred-up : (z : ℤ) → up (pred_ℤ z) + dn z + 1 ≡ dn (pred_ℤ z) + up z

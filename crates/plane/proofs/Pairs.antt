@@ -1,7 +1,7 @@
 -- Equal neighbours dropped two by two: every test keeps its parity, of a list in order each element that is left comes after those before it; and how
 -- far this has come in an array.
-use mathlib.Core.Path.{◌≡◌, refl, sym, ap, ◌∙◌}
-use Prim.Native.Nat.{ℕ, suc, ◌+◌, ◌-◌, ◌≤◌, ◌<◌}
+use mathlib.Core.Path.{◌≡◌, refl, sym, ap, subst, ◌∙◌}
+use Prim.Native.Nat.{ℕ, zero, suc, ◌+◌, ◌-◌, ◌≤◌, ◌<◌}
 use native.Mathlib.Numerals.{add-one}
 use native.Mathlib.Omega.{arith}
 use mathlib.Core.Bool.{Bool, true, false, cond, ◌&&◌, xor}
@@ -10,7 +10,7 @@ use mathlib.Core.List.Memᴰ.{not-nil}
 use mathlib.Core.List.Memᴰ.{tail}
 use mathlib.Core.List.{List, [], ◌∷◌, ◌++◌, map, Memᴰ as In, append_assoc, append-nil}
 use lib.ListN.{length, get_or, take, drop, set, length-set, take-append-drop, drop_of_length-le}
-use lib.Seq.{drop-cons, drop-length, drop-drop, drop-set-lt, get_or-drop, take-suc-set, length-take-le}
+use lib.Seq.{drop-cons, drop-length, drop-drop, drop-set-lt, get_or-drop, set-get_or, take-suc-set, length-take-le}
 use lib.Dec.{ltb}
 use borrow.Author.Tests.{ltb-true, ltb-false}
 use Rattle.plane.specs.Lists.{odd, at_start}
@@ -171,3 +171,9 @@ module _ {A : Type 0} (equal : A → A → Bool) (before : List A) where
       where
         later : drop (left + 1) now ≡ drop (left + 1) before
         later = sym (drop-drop 1 left now) ∙ ap (drop 1) d.same-past ∙ drop-drop 1 left before
+
+  -- where no two before place i are paired, all before it are left
+  pub drops-from : (missing : A) (i : ℕ) → i ≤ length before → ((j : ℕ) → j < i → paired_at equal missing before j ≡ false) → Drops equal before i i before
+  drops-from missing zero h none = drops-none
+  drops-from missing (suc i) h none =
+      rw add-one at (subst (λ l. Drops equal before (i + 1) (i + 1) l) (set-get_or before i missing) (drops-one missing (drops-from missing i (omega arith) (λ j l. none j (omega arith))) (omega arith) (none i (omega arith))))

@@ -5,7 +5,7 @@ use Prim.Native.Nat.{ℕ, zero, suc, ◌+◌, ◌-◌, ◌*◌, ◌≤◌, ◌<�
 use native.Mathlib.Numerals.{add-one}
 use native.Mathlib.Omega.{arith}
 use native.Mathlib.Decide.{ℕ_discrete}
-use mathlib.Core.Bool.{Bool, true, false, cond, ◌&&◌, ◌||◌, false≢true}
+use mathlib.Core.Bool.{Bool, true, false, cond, ◌&&◌, ◌||◌, false≢true, or-false, or_assoc}
 use mathlib.Core.List.Memᴰ.{append_cases}
 use mathlib.Core.List.Memᴰ.{eq_of_singleton}
 use mathlib.Core.List.Memᴰ.{head}
@@ -132,6 +132,12 @@ module _ {A : Type 0} where
   any-in f {l = []} m h = elim m [ ]
   any-in f {l = b ∷ l} (head e) h = rw (← e, h)
   any-in f {l = b ∷ l} (tail m) h = or_right (f b) _ (any-in f m h)
+
+  -- with one more element at the end
+  pub any-last-added : (f : A → Bool) (l : List A) (a : A) → any f (l ++ (a ∷ [])) ≡ (any f l || f a)
+  unfolding any
+  any-last-added f [] a = or-false (f a)
+  any-last-added f (b ∷ l) a = rw (any-last-added f l a) (sym (or_assoc (f b) (any f l) (f a)))
 
   -- of the elements that pass one test, some passes another
   pub any-only : (f g : A → Bool) (l : List A) → any f (only g l) ≡ any (λ a. g a && f a) l

@@ -1,7 +1,7 @@
 -- The laws of numbers in bytes: a number written is read back, and the bytes of a number read are those that were read. One proof for
 -- every count of bytes.
 use Prim.Native.Nat.{ℕ, zero, suc, ◌+◌, ◌-◌, ◌*◌, ◌/◌, ◌%◌, ◌^◌, ◌<◌, ◌≤◌}
-use native.Mathlib.Nat.{pow-suc, pow-succ', mod-eq_of_lt, mod-one, add-mul-div_right, add-mul-mod_self_right, mul_assoc, add_comm}
+use native.Mathlib.Nat.{pow-suc, pow-succ', mod-eq_of_lt, mod-one, add-mul-div_right, add-mul-mod_self_right, mul_assoc, mul_comm, add_comm, add-zero, zero-add, suc-add, add-mul, div-add-mod', div-div-eq-div-mul}
 use native.Mathlib.Omega.{arith}
 use mathlib.Core.Path.{◌≡◌, refl, sym, ap, ap₂, ◌∙◌}
 use mathlib.Core.Bool.{Bool, true, false, cond}
@@ -10,9 +10,10 @@ use lib.ListN.{length, take, drop, length-append, get_or-append}
 use lib.Seq.{drop-cons, length-take-le, get_or_at, get_or-drop, append_snoc}
 use lib.IntN.{ℤ, pos, negsuc, ◌-ℤ◌}
 use lib.Signed.{mag}
+use lib.Pow.{pow-add}
 use lib.Arith.{digits_div, digits_lt, mod-mul}
 use lib.Dec.{ltb}
-use borrow.Author.Tests.{lt-ltb, le-ltb}
+use borrow.Author.Tests.{lt-ltb, le-ltb, ltb-true, ltb-false}
 use Rattle.plane.specs.Lists.{put_at}
 use Rattle.plane.proofs.AtPlace.{put-with-room, pasted-same}
 use Rattle.bigendian.specs.Numbers.{byte_at, number_at, bytes_of, signed, bits, Bytes}
@@ -89,6 +90,32 @@ bytes_read (suc k) at s h room =
 pub written_read : (k at : ℕ) (s : List ℕ) → Bytes s → at + k ≤ length s → put_at s at (bytes_of k (number_at k at s)) ≡ s
 written_read k at s h room = put-with-room s at (bytes_of k (number_at k at s)) (rw (length-bytes k (number_at k at s)) room) ∙ rw (bytes_read k at s h room) (pasted-same s at k room)
 
+-- ---- In two parts, the higher one first
+
+-- the number of j + k bytes
+pub number-parts : (j k at : ℕ) (s : List ℕ) → number_at (j + k) at s ≡ number_at j at s * 256 ^ k + number_at k (at + j) s
+unfolding number_at
+number-parts zero k at s = rw (zero-add k, add-zero at) (omega arith)
+number-parts (suc j) k at s =
+    let b : ℕ = byte_at s at in
+    let m : ℕ = number_at j (suc at) s in
+    let e : b * 256 ^ (j + k) ≡ b * 256 ^ j * 256 ^ k = rw (pow-add 256 j k, mul_assoc) in
+    let f : (b * 256 ^ j + m) * 256 ^ k ≡ b * 256 ^ j * 256 ^ k + m * 256 ^ k = add-mul (b * 256 ^ j) m (256 ^ k) in
+    let i : suc at + j ≡ at + suc j = omega arith in
+    rw (suc-add j k, f, e, number-parts j k (suc at) s, i) (omega arith)
+
+-- the bytes of a number
+pub bytes-parts : (j k n : ℕ) → bytes_of (j + k) n ≡ bytes_of j (n / 256 ^ k) ++ bytes_of k n
+unfolding bytes_of
+bytes-parts zero k n = rw (zero-add k)
+bytes-parts (suc j) k n =
+    let e : n / 256 ^ (j + k) ≡ n / 256 ^ k / 256 ^ j = rw (pow-add 256 j k, mul_comm (256 ^ j) (256 ^ k)) (sym (div-div-eq-div-mul n (256 ^ k) (256 ^ j))) in
+    rw (suc-add j k, e, bytes-parts j k n)
+
+-- the k lowest bytes of a number are those of its rest by 256^k
+pub bytes_rest : (k n : ℕ) → bytes_of k (n % 256 ^ k) ≡ bytes_of k n
+bytes_rest k n = sym (bytes-above k (n / 256 ^ k) (n % 256 ^ k)) ∙ ap (bytes_of k) (div-add-mod' n (256 ^ k))
+
 -- ---- The sign
 
 -- what stands for a number is below the whole
@@ -121,3 +148,11 @@ module _ (half n : ℕ) (h : n < 2 * half) where
       go : (t : Bool) → ltb n half ≡ t → bits half (cond t (pos n) (negsuc (2 * half - suc n))) ≡ n
       go true e = refl
       go false e = omega arith
+
+  -- it fits
+  pub signed-small : mag (signed half n) < half
+  signed-small = rw in_two (go (ltb n half) refl)
+    where
+      go : (t : Bool) → ltb n half ≡ t → mag (cond t (pos n) (negsuc (2 * half - suc n))) < half
+      go true e = ltb-true n half e
+      go false e = let l = ltb-false n half e in omega arith

@@ -1,7 +1,7 @@
 // The words of the plane, as document 01 has them, and the point and the rectangle at a place of an array. What is said of them is in specs/.
 #![tactic(auto)]
 
-ghost use Rattle.std.specs.Prelude.{◌+◌, ◌*◌, ◌<◌, ◌≡◌, List, [], ◌∷◌, length, get_or, ℤ, nat_abs, ◌-ℤ◌, MatchOption};
+ghost use Rattle.std.specs.Prelude.{◌+◌, ◌*◌, ◌<◌, ◌≡◌, ℕ, List, [], ◌∷◌, length, drop, get_or, ℤ, nat_abs, ◌-ℤ◌, MatchOption, IfSome};
 ghost use Rattle.std.specs.Iterator.{YieldsFirst, item_count};
 ghost use Rattle.plane.specs.Words.{origin, same, before, points_of, point_at, rect_size, rects_of, rect_at};
 ghost use Rattle.plane.specs.Keys.{raised, lowered, row_step, key_of, point_of};
@@ -104,9 +104,13 @@ pub trait Packed: Copy {
 
     ghost blank: { Self };
 
+    // How many numbers an item has.
+    ghost size: { ℕ };
+
     /// The first item, and the numbers after it.
     fn split_first(numbers: &[i32]) -> Option<(Self, &[i32])>
-        ensures { MatchOption result (items_of numbers.now ≡ []) (λ r. items_of numbers.now ≡ r.0 ∷ items_of r.1.now) };
+        ensures items { MatchOption result (items_of numbers.now ≡ []) (λ r. items_of numbers.now ≡ r.0 ∷ items_of r.1.now) }
+        ensures rest { IfSome result (λ r. r.1.now ≡ drop size numbers.now) };
 
     /// The item at place i, and one of zeros where there is none.
     fn at(numbers: &[i32], i: usize) -> Self
@@ -117,6 +121,8 @@ impl Packed for Point {
     ghost items_of = { points_of };
 
     ghost blank = { origin };
+
+    ghost size = { 2 };
 
     fn split_first(numbers: &[i32]) -> Option<(Self, &[i32])> {
         let [x, y, rest @ ..] = numbers else {
@@ -140,6 +146,8 @@ impl Packed for Rect {
     ghost items_of = { rects_of };
 
     ghost blank = { rect_at [] 0 };
+
+    ghost size = { rect_size };
 
     fn split_first(numbers: &[i32]) -> Option<(Self, &[i32])> {
         let [x, y, w, h, rest @ ..] = numbers else {

@@ -1,5 +1,6 @@
 -- Batches of points: the keys of a batch, how one is gathered from the corners, and the answer as one batch after another.
-use Prim.Native.Nat.{ℕ, ◌+◌, ◌-◌, ◌*◌, ◌≤◌, ◌<◌}
+use Prim.Native.Nat.{ℕ, suc, ◌+◌, ◌-◌, ◌*◌, ◌≤◌, ◌<◌}
+use native.Mathlib.Numerals.{add-one}
 use native.Mathlib.Omega.{arith}
 use mathlib.Core.Path.{◌≡◌, refl, sym, ap, ◌∙◌}
 use mathlib.Core.Bool.{Bool, true, false, ◌&&◌, and-false}
@@ -7,13 +8,14 @@ use mathlib.Core.List.Memᴰ.{head}
 use mathlib.Core.List.Memᴰ.{tail}
 use mathlib.Core.List.{List, [], ◌∷◌, ◌++◌, Memᴰ as In, map-append}
 use lib.ListN.{length, take, drop, length-append, length-map}
+use lib.Seq.{drop-cons}
 use lib.IntN.{ℤ}
 use lib.Dec.{eqb, leb, ltb}
 use borrow.Author.Tests.{ltb-true, ltb-false, lt-ltb, le-ltb, le-leb, lt-leb}
 use Rattle.plane.specs.declared.Point.{Point}
 use Rattle.plane.specs.declared.Rect.{Rect}
 use Rattle.plane.specs.Lists.{odd, only, at_start}
-use Rattle.plane.specs.Words.{flat_points, corners_of, point_in_range, rising_after, rising}
+use Rattle.plane.specs.Words.{flat_points, corners_of, point_in_range, rising_after, rising, rect_at}
 use Rattle.plane.specs.Keys.{key_of}
 use Rattle.plane.proofs.Bools.{and-make, xor-false, false-xor}
 use Rattle.plane.proofs.Sums.{keep_append, in-only, length-only, only-all, only_none}
@@ -69,6 +71,13 @@ batch-keys rs acc start end ks e h =
 -- at first nothing has come and nothing is kept
 pub gathers-none : (start end : ℕ) (all : List ℕ) → start < end → Gathers start end end all all []
 gathers-none start end all h = record { beyond = h; not_beyond = omega arith; parity = λ f. rw odd-none-of (false-xor _) }
+
+-- the keys of the corners from place i on: those of the rectangle there, and the others'
+pub keys-next : (rs : List Rect) (i : ℕ) → i < length rs → keys_of (corners (drop i rs)) ≡ keys_of (corners_of (rect_at rs i)) ++ keys_of (corners (drop (i + 1) rs))
+unfolding corners
+keys-next rs i h =
+    let e : drop i rs ≡ rect_at rs i ∷ drop (suc i) rs = drop-cons rs i _ h in
+    rw (add-one, e) (map-append key_of (corners_of (rect_at rs i)) (corners (drop (suc i) rs)))
 
 -- the keys of a rectangle's corners are taken, and those of the others are to come
 pub gathers-next : {start asked : ℕ} {b c : Keys} {all : List ℕ} {r : Rect} {rs rest : List Rect} → rest ≡ r ∷ rs → b.start ≡ start → Takes (keys_of (corners_of r)) b c → Gathers start asked b.end all (keys_of (corners rest)) b.keys → (c.start ≡ start) × Gathers start asked c.end all (keys_of (corners rs)) c.keys

@@ -13,11 +13,15 @@ use lib.ListN.{length, get_or, take}
 use lib.Dec.{eqb, ltb}
 use borrow.Author.Tests.{ltb-true, lt-ltb, le-ltb, eqb-true, eq-eqb, ne_eqb}
 use Rattle.plane.specs.Lists.{odd}
+use Rattle.plane.specs.Sorted.{sorted}
+use Rattle.plane.specs.Swaps.{off_pairs}
 use Rattle.plane.proofs.Bools.{clash, and_parts, and-make, xor-false, false-xor}
 use Rattle.plane.proofs.Sums.{all-last-added}
 use Rattle.plane.proofs.Parity.{odd-none-of, odd-cons, odd-rest, odd-none, odd-find}
 use Rattle.plane.proofs.Places.{in-at}
-use Rattle.outline.specs.Inner.{climbs, climbs_after}
+use Rattle.plane.proofs.Sorted.{least_first, sorted-parity, sorted-twice}
+use Rattle.plane.proofs.Pairs.{off-odd, off-ascends}
+use Rattle.outline.specs.Inner.{climbs, climbs_after, OddOnes}
 
 -- ---- The first number
 
@@ -54,6 +58,14 @@ climbs-front : (k : ℕ) (ks : List ℕ) → climbs ks ≡ true → ((j : ℕ) �
 unfolding climbs climbs_after
 climbs-front k [] e low = refl
 climbs-front k (j ∷ ks) e low = and-make (ltb k j) (climbs_after j ks) (low j (head refl)) e
+
+-- so numbers in order without equal neighbours two by two are those that stand an odd number of times
+pub off-odd-ones : (l : List ℕ) → OddOnes l (off_pairs eqb (sorted l))
+unfolding climbs
+off-odd-ones l = record {
+  climbing = off-ascends eqb eqb-true least_first (λ k. eq-eqb k k refl) (λ ks. climbs ks ≡ true) refl climbs-front (sorted l) (sorted-twice least_first l);
+  parity = λ f. off-odd eqb eqb-true f (sorted l) ∙ sorted-parity least_first f l;
+}
 
 -- ---- A number put last
 

@@ -7,13 +7,14 @@
 // others. The points of a row, two by two, begin new rectangles. That this gives the rule's list is shown in the crate `live`.
 #![tactic(auto)]
 
-ghost use Rattle.std.specs.Prelude.{◌≡◌, not, length, slice_get, ◌-ℤ◌, ◌+◌, ◌*◌, ◌<◌, ◌≤◌};
+ghost use Rattle.std.specs.Prelude.{◌≡◌, not, cond, Ok, Err, eqb, length, slice_get, ◌-ℤ◌, ◌+◌, ◌*◌, ◌<◌, ◌≤◌};
 ghost use Rattle.std.specs.Int.{w32};
 ghost use Rattle.std.proofs.Common.{SFits};
 ghost use Rattle.plane.specs.Lists.{at_start};
 ghost use Rattle.plane.specs.Words.{eq_z, points_of, rect_size, flat_rects, area_of, most_points};
 ghost use Rattle.plane.specs.Edge.{edge_length};
 ghost use Rattle.plane.specs.Swaps.{paired_at};
+ghost use Rattle.entry.specs.Refusals.{number_of};
 ghost use Rattle.entry.specs.Checks.{verdict};
 ghost use Rattle.entry.specs.Entry.{counted, told};
 ghost use Rattle.rule.specs.Rule.{rule_list};
@@ -323,35 +324,56 @@ fn area_of(r: Rect) -> u64
     (r.w.unsigned_abs() as u64) * (r.h.unsigned_abs() as u64)
 }
 
+// DRAINED ends a sweep. Any other refusal is passed on as it is; that none comes is what the contracts of both loops say.
+fn unless_drained(refusal: Refusal) -> Result<(), Refusal>
+    ensures { result ≡ cond (eqb (number_of refusal.reason) 10) (Ok tt) (Err refusal) }
+{
+    if refusal.reason != Reason::Drained {
+        return Err(refusal);
+    }
+    Ok(())
+}
+
 // What is said beside the list, with the edge that is told.
-fn sum_all(points: Points<'_>, work: &mut [i32], edge: u64) -> Sums
+fn sum_all(points: Points<'_>, work: &mut [i32], edge: u64) -> Result<Sums, Refusal>
     requires { Ready (swept points) (length work.old) }
     ensures kept { KeptPast (2 * length (swept points.entry)) work.old work.new }
-    ensures sums { result ≡ sums_of (rule_list (swept points.entry)) edge }
+    ensures sums { result ≡ Ok (sums_of (rule_list (swept points.entry)) edge) }
 {
     let mut z = Sweep::new(points.room());
     let mut count: usize = 0;
     let mut area: u64 = 0;
-    while let Ok(done) = z.advance(points, work) {
-        if let Some(Placed { rect, .. }) = done {
-            area += area_of(rect);
-            count += 1;
+    loop {
+        match z.advance(points, work) {
+            Ok(Some(Placed { rect, .. })) => {
+                area += area_of(rect);
+                count += 1;
+            }
+            Ok(None) => {}
+            Err(refusal) => {
+                unless_drained(refusal)?;
+                return Ok(Sums { count, area, edge });
+            }
         }
     }
-    Sums { count, area, edge }
 }
 
 // Writes the list.
-fn write_all(points: Points<'_>, work: &mut [i32], rects: &mut [i32])
+fn write_all(points: Points<'_>, work: &mut [i32], rects: &mut [i32]) -> Result<(), Refusal>
     requires ready { Ready (swept points) (length work.old) }
     requires has_room { rect_size * length (rule_list (swept points)) ≤ length rects.old }
+    ensures done { result ≡ Ok tt }
     ensures kept { KeptPast (2 * length (swept points.entry)) work.old work.new }
     ensures output { rects.new ≡ at_start (flat_rects (rule_list (swept points.entry))) rects.old }
 {
     let mut z = Sweep::new(points.room());
-    while let Ok(done) = z.advance(points, work) {
-        if let Some(Placed { rect, place }) = done {
-            put_four(rects, place, [rect.x, rect.y, rect.w, rect.h]);
+    loop {
+        match z.advance(points, work) {
+            Ok(Some(Placed { rect, place })) => {
+                put_four(rects, place, [rect.x, rect.y, rect.w, rect.h]);
+            }
+            Ok(None) => {}
+            Err(refusal) => return unless_drained(refusal),
         }
     }
 }
@@ -370,12 +392,12 @@ fn count_then_write(
     ensures { ForwardDone points.entry.given.now work.old rects.old (forward_told result) work.new rects.new }
 {
     let given = points.given.len() / 2;
-    let sums = sum_all(points, work, edge);
+    let sums = sum_all(points, work, edge)?;
     if rects.len() / RECT_SIZE < sums.count {
         work[..2 * given].fill(0);
         return Err(Reason::Room.at(sums.count));
     }
-    write_all(points, work, rects);
+    write_all(points, work, rects)?;
     work[..2 * given].fill(0);
     Ok(sums)
 }

@@ -7,7 +7,7 @@ use mathlib.Core.List.{List}
 use lib.ListN.{length, take, replicate, length-map}
 use lib.Seq.{length-take-le}
 use lib.IntN.{ℤ, pos}
-use Rattle.std.specs.Prelude.{Ok, Err}
+use Rattle.std.specs.Prelude.{Err}
 use Rattle.plane.specs.declared.Rect.{Rect}
 use Rattle.plane.specs.Words.{points_of, rect_size, point_at}
 use Rattle.rule.specs.ForwardCall.{forward_answer, forward_work, forward_out, forward_list, forward_told}
@@ -15,7 +15,7 @@ use Rattle.rule.proofs.ForwardCall.{accepted-with-room, forward-accepted, forwar
 use Rattle.sweep.specs.Inner.{KeptPast, swept_points}
 use Rattle.sweep.proofs.Past.{kept_on, kept-drained}
 use Rattle.sweep.proofs.count_then_write.Goals as goal
-use Rattle.sweep.proofs.count_then_write.Goals.{After-sum_all-sums, After-write_all, Else-rects-sums, Start}
+use Rattle.sweep.proofs.count_then_write.Goals.{In_ok-sums, In_ok-write_all, Else-rects-sums, Start}
 
 -- the array, the working array and the rectangles
 abbrev points : Start → List ℤ
@@ -35,31 +35,28 @@ swept s = omega (arith, length-map s.args.points.order.now (point_at (points_of 
 zeroed : (n : ℕ) (a : List ℤ) → n ≤ length a → {filled : List ℤ} → filled ≡ replicate (length (take n a)) (pos 0) → filled ≡ replicate n (pos 0)
 zeroed n a h e = e ∙ ap (λ k. replicate k (pos 0)) (length-take-le n a h)
 
-pub sum_all-sums-requires : goal.sum_all-sums-requires
-sum_all-sums-requires c = c.requires.stand_for.ready
-
-abbrev start_of : After-sum_all-sums → Start
-start_of d = (goal.at-After-sum_all-sums d).Start
+abbrev start_of : In_ok-sums → Start
+start_of d = (goal.at-In_ok-sums d).Start
 
 -- the count is the number of rectangles
-needed : (d : After-sum_all-sums) → d.sum_all-sums.result.count ≡ length (rects (start_of d))
-needed d = ap (λ r. r.count) d.sum_all-sums.ensures.sums ∙ ap length (start_of d).requires.stand_for.same-list
+needed : (d : In_ok-sums) → d.in_ok-sums.sums.count ≡ length (rects (start_of d))
+needed d = ap (λ r. (forward_told r).count) d.in_ok-sums.ensures.sums ∙ ap length (start_of d).requires.stand_for.same-list
 
 pub returns-then-rects-sums : goal.returns-then-rects-sums
 unfolding forward_answer forward_work forward_out
 returns-then-rects-sums c =
-    let d = (goal.at.returns-then-rects-sums c).After-sum_all-sums in
+    let d = (goal.at.returns-then-rects-sums c).In_ok-sums in
     let s = start_of d in
     let l : length s.args.rects.now / rect_size < length (rects s) = omega (arith, needed d, c.if-rects-sums.true) in
     let v = (forward-lacks-room (points s) (length (work s)) (length s.args.rects.now) (length (rects s))).1 (s.requires.forward_accepted, refl, l) in
     record {
       answer = rw (v, ← needed d) (ap (λ e. forward_told (Err e)) c.at.ensures);
-      working = rw v (rw (zeroed _ _ (omega (arith, s.requires.forward_accepted.working, d.sum_all-sums.ensures.kept.same_length)) (c.fill.ensures.after (λ y e. e))) (kept-drained (swept s) d.sum_all-sums.ensures.kept));
+      working = rw v (rw (zeroed _ _ (omega (arith, s.requires.forward_accepted.working, d.in_ok-sums.ensures.kept.same_length)) (c.fill.ensures.after (λ y e. e))) (kept-drained (swept s) d.in_ok-sums.ensures.kept));
       output = rw v;
     }
 
-abbrev counted : Else-rects-sums → After-sum_all-sums
-counted c = (goal.at-Else-rects-sums c).After-sum_all-sums
+abbrev counted : Else-rects-sums → In_ok-sums
+counted c = (goal.at-Else-rects-sums c).In_ok-sums
 
 -- the rectangles have room in the output
 has_room : (c : Else-rects-sums) → let s = start_of (counted c) in length (rects s) ≤ length s.args.rects.now / rect_size
@@ -70,26 +67,26 @@ write_all-requires c =
     let d = counted (goal.at.write_all-requires c).Else-rects-sums in
     let s = start_of d in
     record {
-      ready = rw d.sum_all-sums.ensures.kept.same_length s.requires.stand_for.ready;
+      ready = rw d.in_ok-sums.ensures.kept.same_length s.requires.stand_for.ready;
       has_room = rw s.requires.stand_for.same-list (omega (arith, has_room (goal.at.write_all-requires c).Else-rects-sums));
     }
 
-abbrev room_of : After-write_all → Else-rects-sums
-room_of e = (goal.at-After-write_all e).Else-rects-sums
+abbrev room_of : In_ok-write_all → Else-rects-sums
+room_of e = (goal.at-In_ok-write_all e).Else-rects-sums
 
 -- both sweeps change only the start of the working array
-kept : (e : After-write_all) → let s = start_of (counted (room_of e)) in KeptPast (2 * length (swept_points (points s) s.args.points.order.now)) (work s) e.write_all.new.work
-kept e = kept_on (counted (room_of e)).sum_all-sums.ensures.kept e.write_all.ensures.kept
+kept : (e : In_ok-write_all) → let s = start_of (counted (room_of e)) in KeptPast (2 * length (swept_points (points s) s.args.points.order.now)) (work s) e.write_all.new.work
+kept e = kept_on (counted (room_of e)).in_ok-sums.ensures.kept e.in_ok-write_all.ensures.kept
 
 pub returns : goal.returns
 unfolding forward_answer forward_work forward_out
 returns c =
-    let o = room_of (goal.at.returns c).After-write_all in
+    let o = room_of (goal.at.returns c).In_ok-write_all in
     let d = counted o in
     let s = start_of d in
     let v = (forward-accepted (points s) (length (work s)) (length s.args.rects.now)).1 (accepted-with-room s.requires.forward_accepted (has_room o)) in
     record {
-      answer = rw (v, ← s.requires.edge_value, ← s.requires.stand_for.same-list) (ap (λ r. forward_told (Ok r)) d.sum_all-sums.ensures.sums);
-      working = rw v (rw (zeroed _ _ (omega (arith, s.requires.forward_accepted.working, (kept (goal.at.returns c).After-write_all).same_length)) (c.fill-2.ensures.after (λ y e. e))) (kept-drained (swept s) (kept (goal.at.returns c).After-write_all)));
-      output = rw (v, ← s.requires.stand_for.same-list) c.write_all.ensures.output;
+      answer = rw (v, ← s.requires.edge_value, ← s.requires.stand_for.same-list) (ap forward_told d.in_ok-sums.ensures.sums);
+      working = rw v (rw (zeroed _ _ (omega (arith, s.requires.forward_accepted.working, (kept (goal.at.returns c).In_ok-write_all).same_length)) (c.fill-2.ensures.after (λ y e. e))) (kept-drained (swept s) (kept (goal.at.returns c).In_ok-write_all)));
+      output = rw (v, ← s.requires.stand_for.same-list) c.in_ok-write_all.ensures.output;
     }

@@ -2,6 +2,7 @@
 use Prim.Native.Nat.{ℕ, ◌+◌, ◌*◌, ◌≤◌, ◌<◌}
 use native.Mathlib.Omega.{arith}
 use mathlib.Core.Path.{◌≡◌, refl, sym, ap, ◌∙◌}
+use mathlib.Core.Bool.{false}
 use mathlib.Core.List.{List, [], ◌∷◌, Memᴰ as In}
 use lib.ListN.{length}
 use lib.IntN.{ℤ}
@@ -10,7 +11,7 @@ use borrow.Author.Tests.{eqb-true, eq-eqb}
 use Rattle.plane.specs.declared.Point.{Point}
 use Rattle.plane.specs.declared.Rect.{Rect}
 use Rattle.plane.specs.Lists.{bit, sum, sum_below, at_start}
-use Rattle.plane.specs.Words.{eq_z, rect_size, flat_rects, area_of}
+use Rattle.plane.specs.Words.{eq_z, rect_size, flat_rects, flat, area_of}
 use Rattle.plane.proofs.Sums.{sum-length, count-sum, count-find, below-grows, below-has, below-list}
 use Rattle.plane.proofs.Places.{stretch-none}
 use Rattle.rule.specs.Rule.{rule_list}
@@ -18,7 +19,7 @@ use Rattle.rule.specs.Rows.{Accepted}
 use Rattle.rule.specs.ForwardCall.{sums_of}
 use Rattle.live.specs.Stands.{far, rect_no}
 use Rattle.live.proofs.Moves.{starts}
-use Rattle.live.proofs.Numbered.{list_at}
+use Rattle.live.proofs.Numbered.{list_at, rect-no-solid}
 use Rattle.sweep.specs.declared.Sweep.{Sweep}
 use Rattle.sweep.specs.Inner.{put_rect, KeptPast, lives_of, start_of, room_for, ahead_in, Ready, Underway, live_sum, GoesOn, Gives, AllGiven, most_begun}
 use Rattle.sweep.proofs.Past.{kept-all, kept_on}
@@ -103,6 +104,10 @@ one-given : {qs : List Point} {work₀ work work' : List ℤ} {z at : Sweep} {fi
 unfolding sum
 one-given m g = record { underway = g.underway; kept = kept_on m.kept g.kept; tally = λ w. omega (arith, m.tally w, g.balance w) }
 
+-- the rectangle given is not flat
+pub given-solid : {qs : List Point} {work work' : List ℤ} {z at : Sweep} {rect : Rect} {place : ℕ} → Gives qs z work rect place at work' → flat rect ≡ false
+given-solid {qs} {place = place} g = rw g.rect-is (rect-no-solid qs g.underway.ready.points place g.in_list).0
+
 module _ {qs : List Point} {work₀ work : List ℤ} {z : Sweep} {count area : ℕ} (s : Summing qs work₀ work z count area) where
   -- no more are given than the list has
   pub count-fits : count ≤ most_begun
@@ -115,10 +120,14 @@ module _ {qs : List Point} {work₀ work : List ℤ} {z : Sweep} {count area : �
   still-summed g = record { finished = s.finished; making = none-given s.making g; counted = s.counted; areas = s.areas }
 
   module _ {rect : Rect} {place : ℕ} {at : Sweep} {work' : List ℤ} (g : Gives qs z work rect place at work') where
-    -- its area added to the sum so far is at most the sum over the list
-    pub area-within : {t : ℕ} → t ≡ area_of rect → area + t ≤ sum area_of (rule_list qs)
+    -- its weight added to the sum so far is at most the sum over the list
+    pub added-within : (f : Rect → ℕ) {a t : ℕ} → a ≡ sum (by_number qs f) s.finished → t ≡ f rect → a + t ≤ sum f (rule_list qs)
     unfolding sum
-    area-within h = omega (arith, sum-within area_of (one-given s.making g), s.areas, ap area_of g.rect-is)
+    added-within f e h = omega (arith, sum-within f (one-given s.making g), ap f g.rect-is)
+
+    -- so is its area
+    pub area-within : {t : ℕ} → t ≡ area_of rect → area + t ≤ sum area_of (rule_list qs)
+    area-within h = added-within area_of s.areas h
 
     -- one more is counted and summed
     pub one-summed : {t : ℕ} → t ≡ area_of rect → Summing qs work₀ work' at (count + 1) (area + t)

@@ -9,7 +9,7 @@ use lib.IntN.{ℤ}
 use lib.Signed.{lt_z}
 use Rattle.plane.specs.declared.Point.{Point}
 use Rattle.plane.specs.Words.{eq_z, most_points}
-use Rattle.plane.proofs.Bools.{bit-most}
+use Rattle.plane.proofs.Bools.{cond-case, bit-most}
 use Rattle.plane.proofs.Order.{order, eq_z-refl}
 use Rattle.plane.proofs.Places.{rest-next}
 use Rattle.live.specs.declared.Live.{Live}
@@ -21,6 +21,12 @@ use Rattle.sweep.specs.Inner.{nearer, after_point, with_carried, cancelled, take
 use Rattle.sweep.proofs.Past.{kept-all}
 use Rattle.sweep.proofs.Places.{first-on-row}
 use Rattle.sweep.proofs.Going.{there-one, there-none, there-most}
+
+-- ---- Where a sweep is then
+
+-- the live rectangles ahead stay where they are
+pub taken-ahead : (z : Sweep) (x : ℤ) → (taken_from z x).ahead ≡ z.ahead
+taken-ahead z x = cond-case (λ (y : Sweep). y.ahead ≡ z.ahead) (lt_z x z.carried) (λ e. refl) (λ e. refl)
 
 -- ---- What is to come
 

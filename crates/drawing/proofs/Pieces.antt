@@ -1,47 +1,32 @@
--- Pieces that are added to a page one after another, with room for all of them.
-use Prim.Native.Nat.{ℕ, ◌+◌, ◌≤◌}
+-- Bytes that are drawn on a paper one after another.
+use Prim.Native.Nat.{ℕ, ◌+◌}
+use Rattle.std.proofs.Common.{add-zero}
 use native.Mathlib.Omega.{arith}
-use mathlib.Core.Path.{◌≡◌, sym, ◌∙◌}
-use mathlib.Core.List.{List, [], ◌++◌, append-nil, append_assoc}
-use lib.ListN.{length, length-append}
-use borrow.Author.Tests.{le-leb}
-use Rattle.numerals.specs.Bytes.{added}
+use mathlib.Core.Path.{◌≡◌, refl, ◌∙◌}
+use mathlib.Core.List.{List, [], ◌++◌}
+use lib.ListN.{length, length-append, take-append-drop}
+use Rattle.plane.proofs.AtPlace.{pasted_length, pasted-then}
+use Rattle.numerals.specs.Bytes.{Put}
+use Rattle.numerals.proofs.Putting.{put-room}
+use Rattle.drawing.specs.declared.Paper.{Paper}
+use Rattle.drawing.specs.Inner.{HasRoom, Draws}
 
--- what is added where it has room is there
-pub added-fit : (n : ℕ) (page piece : List ℕ) {next : List ℕ} → next ≡ added n page piece → length page + length piece ≤ n → next ≡ page ++ piece
-added-fit n page piece e room = rw (le-leb (length page + length piece) n room) at e
+-- what is put after the bytes that are there is drawn
+pub put-draws : (p : Paper) (bytes : List ℕ) {r : ℕ} {after : List ℕ} → Put p.room.now p.len bytes r after → Draws p bytes (record { room = record p.room { now = after }; len = r })
+put-draws p bytes put = record { drawn = λ h. let e = put-room p.room.now p.len bytes put h in rw (e.0, e.1) refl }
 
--- room for two pieces is room for the first, and then for the second
-pub first-fits : {n : ℕ} (page x y : List ℕ) → length page + length (x ++ y) ≤ n → length page + length x ≤ n
-first-fits page x y room = omega (arith, length-append x y)
-
-pub then-fits : {n : ℕ} (page x y : List ℕ) {next : List ℕ} → next ≡ page ++ x → length page + length (x ++ y) ≤ n → length next + length y ≤ n
-then-fits page x y e room = rw e (omega (arith, length-append page x, length-append x y))
+-- nothing is drawn where the paper stays
+pub draws-nothing : (p : Paper) → Draws p [] p
+draws-nothing p = record { drawn = λ h. rw (add-zero, take-append-drop p.len p.room.now) refl }
 
 -- two pieces, one after the other, are one
-pub both : (page x y : List ℕ) {next last : List ℕ} → next ≡ page ++ x → last ≡ next ++ y → last ≡ page ++ (x ++ y)
-both page x y e f = f ∙ rw e (append_assoc page x y)
-
--- ---- Pieces of a whole, of which some are left
-
--- the next piece has room
-pub piece-fits : {n : ℕ} (page x more : List ℕ) {rest whole : List ℕ} → page ++ rest ≡ whole → rest ≡ x ++ more → length whole ≤ n → length page + length x ≤ n
-piece-fits {n} page x more parts e room =
-    let all : length (page ++ (x ++ more)) ≤ n = rw (sym e, parts) room in
-    omega (arith, length-append page (x ++ more), length-append x more)
-
--- and when it is added, less is left
-pub piece-next : (page x more : List ℕ) {rest whole next : List ℕ} → page ++ rest ≡ whole → rest ≡ x ++ more → next ≡ page ++ x → next ++ more ≡ whole
-piece-next page x more parts e f = rw f (append_assoc page x more ∙ rw (sym e) parts)
-
--- the same of a piece that is added if it has room
-pub added-next : {n : ℕ} (page x more : List ℕ) {rest whole next : List ℕ} → page ++ rest ≡ whole → rest ≡ x ++ more → length whole ≤ n → next ≡ added n page x → next ++ more ≡ whole
-added-next {n} page x more parts e room f = piece-next page x more parts e (added-fit n page x f (piece-fits page x more parts e room))
-
--- a page and what has room on it, as one whole
-pub whole-fits : {n : ℕ} (page x : List ℕ) → length page + length x ≤ n → length (page ++ x) ≤ n
-whole-fits page x room = omega (arith, length-append page x)
-
--- and where nothing is left, all is written
-pub none-left : (page : List ℕ) {rest whole : List ℕ} → page ++ rest ≡ whole → rest ≡ [] → page ≡ whole
-none-left page parts e = sym (append-nil page) ∙ (rw e at parts)
+pub both : {p q r : Paper} {xs ys : List ℕ} → Draws p xs q → Draws q ys r → Draws p (xs ++ ys) r
+both {p} {q} {r} {xs} {ys} d e =
+    record {
+      drawn = λ h.
+          let first : HasRoom p xs = omega (arith, length-append xs ys) in
+          let kept = pasted_length p.room.now p.len xs first in
+          let then : HasRoom q ys = rw (d.drawn first) (omega (arith, kept, length-append xs ys)) in
+          let where_to : p.len + length xs + length ys ≡ p.len + length (xs ++ ys) = omega (arith, length-append xs ys) in
+          e.drawn then ∙ (rw (d.drawn first, pasted-then p.room.now p.len xs ys (omega arith), where_to) refl);
+    }

@@ -23,10 +23,11 @@ use Rattle.rule.specs.declared.Sums.{Sums}
 use Rattle.rule.specs.ForwardCall.{forward_says, forward_answer, forward_out, forward_checks, ForwardDone, forward_list, sums_told, forward_sums, forward_told, ForwardAnswer}
 use Rattle.rule.proofs.ForwardCall.{forward-accepted}
 use Rattle.rule.proofs.Demands.{forward-sums-fit}
-use Rattle.numerals.proofs.Writing.{Wrote}
 use Rattle.reading.specs.Reading.{ReadDone}
 use Rattle.reading.proofs.Kept.{read_kept, read_done, read-refused}
 use Rattle.text.specs.Program.{most_work, most_list, program_report, most_listed}
+use Rattle.drawing.specs.declared.Paper.{Paper}
+use Rattle.drawing.specs.Inner.{Draws}
 use Rattle.drawing.specs.Picture.{svg_of, shown, points_shown, list_shown, sums_shown, picture_of, Drawn}
 
 -- ---- The list
@@ -116,9 +117,12 @@ pub picture-shown : (t : List ℕ) → let a = flat_points (points_shown t) in s
 unfolding picture_of
 picture-shown t = let a = flat_points (points_shown t) in ap (λ (ps : List Point). svg_of ps (list_shown a) (sums_shown a) (program_report t)) (points-flat (points_shown t))
 
--- with room it is drawn, and without it nothing is
-pub drawn : {t out : List ℕ} {r : ℕ} {after : List ℕ} → Wrote out 0 (picture_of t) r after → 800_000 ≤ length out → Drawn t out r after
-drawn {out = out} w h = let e = le-leb 800_000 (length out) h in record { size = rw e (w.place ∙ zero-add _); output = rw e w.output }
+-- with room it is drawn, where the output that the paper was lent ends as what the paper has, and without it nothing is
+pub drawn : {t : List ℕ} {p q : Paper} {after : List ℕ} → Draws p (picture_of t) q → p.len ≡ 0 → length (picture_of t) ≤ 800_000 → 800_000 ≤ length p.room.now → (p.room.ghost_name ≡ q.room.ghost_name → after ≡ q.room.now) → Drawn t p.room.now q.len after
+drawn {t} {p} {q} d start fits room lent =
+    let enough = le-leb 800_000 (length p.room.now) room in
+    let all = d.drawn (omega arith) in
+    record { size = rw (enough, all, start) (zero-add _); output = lent (rw all refl) ∙ rw (enough, all, start) refl }
 
 pub not-drawn : (t out : List ℕ) → length out < 800_000 → Drawn t out 0 out
 not-drawn t out h = let e = lt-leb 800_000 (length out) h in record { size = rw e; output = rw e }

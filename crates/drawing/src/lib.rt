@@ -2,16 +2,18 @@
 // is refused. What it shows and where is in specs/.
 #![tactic(auto)]
 
-ghost use Rattle.std.specs.Prelude.{◌+◌, ◌≤◌, ◌≡◌, [], ◌++◌, length};
+ghost use Rattle.std.specs.Prelude.{◌≤◌, ◌≡◌};
 ghost use Rattle.plane.specs.Lists.{odd};
 ghost use Rattle.plane.specs.Words.{same, points_of, rects_of};
+ghost use Rattle.numerals.specs.Numerals.{decimal};
 ghost use Rattle.text.specs.Program.{outcome_told, program_report};
 ghost use Rattle.text.specs.Sentences.{sentence};
 ghost use Rattle.drawing.specs.Plan.{box_of, dot_radius};
-ghost use Rattle.drawing.specs.Picture.{filled, head_of, block_of, blocks, dot_of, dots, mark_of, list_says, refusal_says, list_part, point_part, mark_part, say_part, svg_of, list_shown, sums_shown, Drawn};
+ghost use Rattle.drawing.specs.Picture.{filled, head_of, block_of, blocks, dot_of, dots, mark_of, list_says, refusal_says, list_part, point_part, mark_part, say_part, svg_of, picture_of, list_shown, sums_shown, Drawn};
+ghost use Rattle.drawing.specs.Inner.{Draws};
 
 use entry::Refusal;
-use numerals::{Page, put_bytes};
+use numerals::{put_bytes, put_number};
 use panbuckle::{Point, Rect, Sums, forward};
 use plane::{RECT_SIZE, points_in, rects_in, same_point};
 use reading::read_points;
@@ -34,15 +36,37 @@ const NO_SUMS: Sums = Sums {
     edge: 0,
 };
 
-// What is drawn, byte after byte. The view, and what is drawn, go beside it: in a struct of both each contract would also say that they stay.
-type Paper = Page<MOST_DRAWN>;
+// The output that is drawn into, byte after byte, and how many bytes are there. It is lent: a page to be copied would need as much room again.
+// The view, and what is drawn, go beside it: in a struct of all each contract would also say that they stay.
+#[derive(Drop)]
+struct Paper<'a> {
+    room: &'a mut [u8],
+    len: usize,
+}
+
+impl Paper<'_> {
+    ghost use Rattle.drawing.specs.Inner.{Draws};
+
+    // Adds bytes, if all have room.
+    fn add(&mut self, bytes: &[u8])
+        ensures { Draws self.old bytes.now self.new }
+    {
+        self.len = put_bytes(self.room, self.len, bytes);
+    }
+
+    // Adds a number's digits, likewise.
+    fn add_number(&mut self, n: u64)
+        ensures { Draws self.old (decimal n) self.new }
+    {
+        self.len = put_number(self.room, self.len, n);
+    }
+}
 
 // ---- Parts of a picture
 
 // A template, with the numbers in the places of its `@`.
 fn fill(page: &mut Paper, template: &[u8], numbers: &[u64])
-    requires { length page.old + length (filled template.now numbers.now) ≤ MOST_DRAWN }
-    ensures { page.new ≡ page.old ++ filled template.now numbers.now }
+    ensures { Draws page.old (filled template.now numbers.now) page.new }
 {
     let mut numbers = numbers.iter();
     for b in template {
@@ -56,8 +80,7 @@ fn fill(page: &mut Paper, template: &[u8], numbers: &[u64])
 
 // The picture's size, its colours and its paper.
 fn add_head(page: &mut Paper, view: View)
-    requires { length page.old + length (head_of view) ≤ MOST_DRAWN }
-    ensures { page.new ≡ page.old ++ head_of view }
+    ensures { Draws page.old (head_of view) page.new }
 {
     let left = view.free_beside() + 2000;
     let height = view.height + 10_000;
@@ -70,8 +93,7 @@ fn add_head(page: &mut Paper, view: View)
 
 // A rectangle with its number in the middle.
 fn add_block(page: &mut Paper, view: View, number: usize, r: Rect)
-    requires { length page.old + length (block_of number (box_of view r)) ≤ MOST_DRAWN }
-    ensures { page.new ≡ page.old ++ block_of number (box_of view r) }
+    ensures { Draws page.old (block_of number (box_of view r)) page.new }
 {
     let b = view.box_of(r);
     let size = (b.w * 2 / 5).min((b.h * 3 / 4).min(4000));
@@ -94,8 +116,7 @@ fn add_block(page: &mut Paper, view: View, number: usize, r: Rect)
 
 // The rectangles of a list, numbered from 0.
 fn add_blocks(page: &mut Paper, view: View, list: &[i32])
-    requires { length page.old + length (blocks view 0 (rects_of list.now)) ≤ MOST_DRAWN }
-    ensures { page.new ≡ page.old ++ blocks view 0 (rects_of list.now) }
+    ensures { Draws page.old (blocks view 0 (rects_of list.now)) page.new }
 {
     for (i, r) in rects_in(list).enumerate() {
         add_block(page, view, i, r);
@@ -111,8 +132,7 @@ fn stands(points: &[i32], p: Point) -> bool
 
 // A point: filled if it stands, hollow if it cancels.
 fn add_dot(page: &mut Paper, view: View, radius: u64, stands: bool, p: Point)
-    requires { length page.old + length (dot_of view radius stands p) ≤ MOST_DRAWN }
-    ensures { page.new ≡ page.old ++ dot_of view radius stands p }
+    ensures { Draws page.old (dot_of view radius stands p) page.new }
 {
     let template: &[u8] = if stands {
         b"<circle cx='@' cy='@' r='@'/>\n"
@@ -123,8 +143,7 @@ fn add_dot(page: &mut Paper, view: View, radius: u64, stands: bool, p: Point)
 }
 
 fn add_dots(page: &mut Paper, view: View, radius: u64, points: &[i32])
-    requires { length page.old + length (dots view radius (points_of points.now) (points_of points.now)) ≤ MOST_DRAWN }
-    ensures { page.new ≡ page.old ++ dots view radius (points_of points.now) (points_of points.now) }
+    ensures { Draws page.old (dots view radius (points_of points.now) (points_of points.now)) page.new }
 {
     for p in points_in(points) {
         add_dot(page, view, radius, stands(points, p), p);
@@ -133,9 +152,8 @@ fn add_dots(page: &mut Paper, view: View, radius: u64, points: &[i32])
 
 // The mark of a point: its row, its column and a ring.
 fn add_mark(page: &mut Paper, view: View, radius: u64, p: Point)
-    requires mark { length page.old + length (mark_of view radius p) ≤ MOST_DRAWN }
-    requires ring { radius ≤ 300 }
-    ensures { page.new ≡ page.old ++ mark_of view radius p }
+    requires { radius ≤ 300 }
+    ensures { Draws page.old (mark_of view radius p) page.new }
 {
     let x = view.column(p);
     let y = view.line(p);
@@ -148,8 +166,7 @@ fn add_mark(page: &mut Paper, view: View, radius: u64, p: Point)
 
 // What is said above a list: its sums.
 fn add_sums(page: &mut Paper, view: View, sums: Sums)
-    requires { length page.old + length (list_says view sums) ≤ MOST_DRAWN }
-    ensures { page.new ≡ page.old ++ list_says view sums }
+    ensures { Draws page.old (list_says view sums) page.new }
 {
     fill(
         page,
@@ -160,9 +177,8 @@ fn add_sums(page: &mut Paper, view: View, sums: Sums)
 
 // What is said above points that are refused: the refusal's number and place, and the sentence.
 fn add_refusal(page: &mut Paper, view: View, refusal: Refusal, outcome: Outcome)
-    requires refused { outcome.refusal ≡ Some refusal }
-    requires room { length page.old + length (refusal_says view (outcome_told outcome)) ≤ MOST_DRAWN }
-    ensures { page.new ≡ page.old ++ refusal_says view (outcome_told outcome) }
+    requires { outcome.refusal ≡ Some refusal }
+    ensures { Draws page.old (refusal_says view (outcome_told outcome)) page.new }
 {
     let left = view.free_beside();
     let number = u64::from(u32::from(refusal.reason));
@@ -181,8 +197,7 @@ fn add_refusal(page: &mut Paper, view: View, refusal: Refusal, outcome: Outcome)
 
 // The rectangles, in list order.
 fn add_list(page: &mut Paper, view: View, list: &[i32])
-    requires { length page.old + length (list_part view (rects_of list.now)) ≤ MOST_DRAWN }
-    ensures { page.new ≡ page.old ++ list_part view (rects_of list.now) }
+    ensures { Draws page.old (list_part view (rects_of list.now)) page.new }
 {
     add_head(page, view);
     add_blocks(page, view, list);
@@ -198,8 +213,7 @@ fn radius_for(count: usize) -> u64
 }
 
 fn add_points(page: &mut Paper, view: View, points: &[i32])
-    requires { length page.old + length (point_part view (points_of points.now)) ≤ MOST_DRAWN }
-    ensures { page.new ≡ page.old ++ point_part view (points_of points.now) }
+    ensures { Draws page.old (point_part view (points_of points.now)) page.new }
 {
     add_dots(page, view, radius_for(points.len() / 2), points);
     page.add(b"</g>\n");
@@ -207,8 +221,7 @@ fn add_points(page: &mut Paper, view: View, points: &[i32])
 
 // The mark of the point that a refusal names.
 fn add_offender(page: &mut Paper, view: View, points: &[i32], outcome: Outcome)
-    requires { length page.old + length (mark_part view (points_of points.now) (outcome_told outcome)) ≤ MOST_DRAWN }
-    ensures { page.new ≡ page.old ++ mark_part view (points_of points.now) (outcome_told outcome) }
+    ensures { Draws page.old (mark_part view (points_of points.now) (outcome_told outcome)) page.new }
 {
     let Some(refusal) = outcome.refusal else {
         return;
@@ -220,8 +233,7 @@ fn add_offender(page: &mut Paper, view: View, points: &[i32], outcome: Outcome)
 
 // What is said above.
 fn add_answer(page: &mut Paper, view: View, sums: Sums, outcome: Outcome)
-    requires { length page.old + length (say_part view sums (outcome_told outcome)) ≤ MOST_DRAWN }
-    ensures { page.new ≡ page.old ++ say_part view sums (outcome_told outcome) }
+    ensures { Draws page.old (say_part view sums (outcome_told outcome)) page.new }
 {
     match outcome.refusal {
         Some(refusal) => add_refusal(page, view, refusal, outcome),
@@ -231,8 +243,7 @@ fn add_answer(page: &mut Paper, view: View, sums: Sums, outcome: Outcome)
 
 // The points, the list that they have, and what the program says of them.
 fn add_picture(page: &mut Paper, points: &[i32], list: &[i32], sums: Sums, outcome: Outcome)
-    requires { length page.old + length (svg_of (points_of points.now) (rects_of list.now) sums (outcome_told outcome)) ≤ MOST_DRAWN }
-    ensures { page.new ≡ page.old ++ svg_of (points_of points.now) (rects_of list.now) sums (outcome_told outcome) }
+    ensures { Draws page.old (svg_of (points_of points.now) (rects_of list.now) sums (outcome_told outcome)) page.new }
 {
     let view = View::of(Frame::of(points));
     add_list(page, view, list);
@@ -244,9 +255,7 @@ fn add_picture(page: &mut Paper, points: &[i32], list: &[i32], sums: Sums, outco
 
 // The points read are fractured as the program does, and drawn; of points that are refused there is no list.
 fn draw(page: &mut Paper, points: &[i32], outcome: Outcome)
-    requires empty { page.old ≡ [] }
-    requires room { length (svg_of (points_of points.now) (list_shown points.now) (sums_shown points.now) (outcome_told outcome)) ≤ MOST_DRAWN }
-    ensures { page.new ≡ svg_of (points_of points.now) (list_shown points.now) (sums_shown points.now) (outcome_told outcome) }
+    ensures { Draws page.old (svg_of (points_of points.now) (list_shown points.now) (sums_shown points.now) (outcome_told outcome)) page.new }
 {
     let mut work = [0; MOST_WORK];
     let mut rects = [0; MOST_LIST];
@@ -258,6 +267,17 @@ fn draw(page: &mut Paper, points: &[i32], outcome: Outcome)
         sums,
         outcome,
     );
+}
+
+// The points of an input are read and drawn, with what the program knows at its end. This is found first, so that the stack that it took is
+// free for them.
+fn draw_input(page: &mut Paper, input: &[u8], outcome: Outcome)
+    requires { outcome_told outcome ≡ program_report input.now }
+    ensures { Draws page.old (picture_of input.now) page.new }
+{
+    let mut points = [0; MOST_WORK];
+    let count = read_points(input, &mut points).unwrap_or(0);
+    draw(page, &points[..2 * count], outcome);
 }
 
 // What the program knows of an input at its end; what it prints is not kept.
@@ -276,9 +296,7 @@ pub fn picture(input: &[u8], out: &mut [u8]) -> usize
     if out.len() < MOST_DRAWN {
         return 0;
     }
-    let mut points = [0; MOST_WORK];
-    let count = read_points(input, &mut points).unwrap_or(0);
-    let mut page = Page::new();
-    draw(&mut page, &points[..2 * count], outcome_of(input));
-    put_bytes(out, 0, page.bytes())
+    let mut page = Paper { room: out, len: 0 };
+    draw_input(&mut page, input, outcome_of(input));
+    page.len
 }

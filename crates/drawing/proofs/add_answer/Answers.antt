@@ -17,14 +17,6 @@ not-done c =
     let e = c.in-Some.refusal in
     rw c.in-Some.is (ne_eqb (number_of e.reason) 0 (λ z. omega (arith, number-above e.reason)))
 
-pub add_refusal-requires-clause-room : goal.add_refusal-requires-clause-room
-unfolding say_part
-add_refusal-requires-clause-room c = rw (not-done (goal.at.add_refusal-requires-clause-room c).In-Some) at c.requires
-
-pub add_sums-requires : goal.add_sums-requires
-unfolding say_part
-add_sums-requires c = rw c.in-None.is at c.requires
-
 pub returns-in-Some : goal.returns-in-Some
 unfolding say_part
 returns-in-Some c = rw (not-done (goal.at.returns-in-Some c).In-Some) c.add_refusal.ensures

@@ -1,9 +1,9 @@
--- The invariant of `drawing::add_blocks`: what is written, and then the blocks of the rectangles that are left, make the whole.
+-- The invariant of `drawing::add_blocks`: once the blocks of the rectangles that are left are drawn, all are.
 use Prim.Native.Nat.{◌+◌, ◌^◌, ◌<◌}
-use mathlib.Core.Path.{◌≡◌}
-use mathlib.Core.List.{◌++◌}
 use lib.ListN.{length}
 use Rattle.plane.specs.Words.{rects_of}
+use Rattle.drawing.specs.declared.Paper.{Paper}
+use Rattle.drawing.specs.Inner.{Draws}
 use Rattle.drawing.specs.Picture.{blocks}
 use Rattle.drawing.proofs.add_blocks.Given as goal
 
@@ -11,4 +11,4 @@ abbrev pub invariant-loop-i : goal.invariant-loop-i
 invariant-loop-i l =
     let number = l.i-iterator.count in
     let left = rects_of l.i-iterator.iter.rest.now in
-    (number + length left < 2 ^ 64) × (l.page ++ blocks l.view number left ≡ l.initial.page ++ blocks l.view 0 (rects_of l.list))
+    (number + length left < 2 ^ 64) × ((end : Paper) → Draws l.page (blocks l.view number left) end → Draws l.initial.page (blocks l.view 0 (rects_of l.list)) end)

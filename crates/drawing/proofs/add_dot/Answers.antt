@@ -3,14 +3,6 @@ use Rattle.drawing.specs.Picture.{dot_of}
 use Rattle.drawing.proofs.add_dot.Goals as goal
 use Rattle.drawing.proofs.add_dot.Goals.{then-stands, else-stands}
 
-pub fill-requires : goal.fill-requires
-unfolding dot_of
-fill-requires c =
-    elim c.if-stands.branch [
-      | then-stands w ↦ rw (w.template-is, c.column.ensures, c.line.ensures) (rw w.if-stands.true at c.requires)
-      | else-stands w ↦ rw (w.template-is, c.column.ensures, c.line.ensures) (rw w.if-stands.false at c.requires)
-    ]
-
 pub returns : goal.returns
 unfolding dot_of
 returns c =

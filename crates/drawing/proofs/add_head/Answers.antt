@@ -2,10 +2,6 @@
 use Rattle.drawing.specs.Picture.{head_of}
 use Rattle.drawing.proofs.add_head.Goals as goal
 
-pub fill-requires : goal.fill-requires
-unfolding head_of
-fill-requires c = rw c.free_beside-left.ensures.value c.requires
-
 pub returns : goal.returns
 unfolding head_of
 returns c = rw c.free_beside-left.ensures.value at c.fill.ensures

@@ -41,12 +41,7 @@ slice_bounds-rects-end c = room (goal.at.slice_bounds-rects-end c).After-unwrap_
 pub slice_bounds-add_picture-end : goal.slice_bounds-add_picture-end
 slice_bounds-add_picture-end c = sym (length-take-le _ _ (room (goal.at.slice_bounds-add_picture-end c).After-unwrap_or-sums))
 
-pub add_picture-requires : goal.add_picture-requires
-add_picture-requires c =
-    let u = (goal.at.add_picture-requires c).After-unwrap_or-sums in
-    rw (c.requires.empty, sums u, (made u).list, (made u).sums) (omega (arith, c.requires.room))
-
 pub returns : goal.returns
 returns c =
     let u = (goal.at.returns c).After-unwrap_or-sums in
-    rw (c.requires.empty, sums u, (made u).list, (made u).sums) at c.add_picture.ensures
+    rw (sums u, (made u).list, (made u).sums) at c.add_picture.ensures

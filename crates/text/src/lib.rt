@@ -8,7 +8,7 @@ ghost use Rattle.entry.specs.Refusals.{number_of};
 ghost use Rattle.numerals.specs.Bytes.{Put};
 ghost use Rattle.text.specs.Program.{sums_line, rect_line, list_lines, refusal_line, names_one, offender, outcome_told, ProgramDone};
 ghost use Rattle.text.specs.Sentences.{many_says, names_point, room_says, text_says, sentence};
-ghost use Rattle.text.specs.Inner.{Listed};
+ghost use Rattle.text.specs.Inner.{Fractured, Listed};
 
 use entry::{Reason, Refusal};
 use numerals::{Page, put_bytes};
@@ -161,23 +161,36 @@ fn point_named(points: &[i32], refusal: Refusal) -> Point
     origin()
 }
 
+// What forward makes of points. It has its work here, so that its stack is free again when the list is printed.
+fn fracture(points: &[i32], rects: &mut [i32]) -> Result<Sums, Refusal>
+    ensures { Fractured points.now rects.old result rects.new }
+{
+    let mut work = [0; MOST_WORK];
+    forward(points, &mut work, rects)
+}
+
+fn print_list(sums: Sums, rects: &[i32], out: &mut [u8]) -> usize
+    requires { length (list_lines sums (rects_of rects.now)) ≤ MOST_PRINTED }
+    ensures value { result ≡ length (list_lines sums (rects_of rects.now)) }
+    ensures out_after { out.new ≡ put_at out.old 0 (list_lines sums (rects_of rects.now)) }
+{
+    let mut page = Page::new();
+    add_list(&mut page, sums, rects);
+    print(&page, out)
+}
+
 // The program on the points that were read, from a text of so many bytes.
 fn list(points: &[i32], read: usize, out: &mut [u8]) -> Outcome
     ensures { Listed points.now read out.old (outcome_told result) out.new }
 {
-    let mut work = [0; MOST_WORK];
     let mut rects = [0; MOST_LIST];
-    match forward(points, &mut work, &mut rects) {
-        Ok(sums) => {
-            let mut page = Page::new();
-            add_list(&mut page, sums, &rects[..RECT_SIZE * sums.count]);
-            Outcome {
-                refusal: None,
-                point: origin(),
-                read,
-                printed: print(&page, out),
-            }
-        }
+    match fracture(points, &mut rects) {
+        Ok(sums) => Outcome {
+            refusal: None,
+            point: origin(),
+            read,
+            printed: print_list(sums, &rects[..RECT_SIZE * sums.count], out),
+        },
         Err(refusal) => Outcome {
             refusal: Some(refusal),
             point: point_named(points, refusal),

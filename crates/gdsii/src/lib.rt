@@ -157,7 +157,7 @@ fn same_name(a: &[u8], b: &[u8]) -> bool
     ensures { result ≡ same_name a.now b.now }
 {
     let shared = a.len().min(b.len());
-    (a[..shared] == b[..shared]) & is_padding(&a[shared..]) & is_padding(&b[shared..])
+    a[..shared] == b[..shared] && is_padding(&a[shared..]) && is_padding(&b[shared..])
 }
 
 // ---- The walk

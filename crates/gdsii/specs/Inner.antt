@@ -54,7 +54,7 @@ abbrev pub told_step : Cursor → Result Step Reason → Judged
 told_step c (Err r) = Refused (number_of r)
 told_step c (Ok End) = Over c.found
 told_step c (Ok (Pass d)) = Passed d
-told_step c (Ok (Read v d)) = Boundary (vertices_left v) d
+told_step c (Ok (Read d v)) = Boundary (vertices_left v) d
 
 -- ---- The next boundary
 

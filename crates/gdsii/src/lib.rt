@@ -43,12 +43,13 @@ struct Cursor {
     asked: bool,
 }
 
-// What a record makes of the walk: its end; or it goes on from a cursor, after the record is passed, or a boundary is read.
+// What a record makes of the walk: its end; or it goes on from a cursor, after the record is passed, or a boundary is read. The cursor comes first in
+// both: where it does not, its small fields lie over a length and are packed into it at each record.
 #[derive(Clone, Copy)]
 enum Step<'a> {
     End,
     Pass(Cursor),
-    Read(Vertices<'a>, Cursor),
+    Read(Cursor, Vertices<'a>),
 }
 
 // The bytes of a vertex.
@@ -199,7 +200,7 @@ impl<'a> Reader<'a> {
                     bytes: &rest[HEAD..good.size],
                 };
                 check_shape(vertices)?;
-                Ok(Step::Read(vertices, next))
+                Ok(Step::Read(next, vertices))
             }
             Treatment::Unknown => Err(Reason::Record),
             Treatment::Vertices | Treatment::Skip => Ok(Step::Pass(next)),
@@ -228,7 +229,7 @@ impl<'a> Reader<'a> {
                 Err(reason) => return Err(reason.at(c.at)),
                 Ok(Step::End) => return Ok((None, c)),
                 Ok(Step::Pass(next)) => c = next,
-                Ok(Step::Read(vertices, next)) => return Ok((Some(vertices), next)),
+                Ok(Step::Read(next, vertices)) => return Ok((Some(vertices), next)),
             }
         }
         Err(Reason::Truncated.at(c.at))

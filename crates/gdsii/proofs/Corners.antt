@@ -2,11 +2,12 @@
 use mathlib.Core.Path.{◌≡◌, refl, sym, ap, ◌∙◌}
 use Prim.Native.Nat.{ℕ, suc, ◌+◌, ◌*◌, ◌≤◌}
 use native.Mathlib.Omega.{arith}
+use mathlib.Core.Bool.{Bool, true, false}
 use mathlib.Core.List.{List, [], ◌∷◌, ◌++◌}
 use lib.ListN.{length, take, drop, take-append-drop}
 use lib.IntN.{ℤ}
 use Rattle.plane.specs.declared.Point.{Point}
-use Rattle.plane.specs.Lists.{pasted}
+use Rattle.plane.specs.Lists.{bit, keep, pasted}
 use Rattle.plane.specs.Words.{flat_points}
 use Rattle.plane.proofs.Arrays.{length-flat-points}
 use Rattle.plane.proofs.AtPlace.{put-with-room, put-length, pasted-then, pasted-there}
@@ -17,6 +18,16 @@ pub put-points-length : (a : List ℤ) (i : ℕ) (ps : List Point) → length (p
 unfolding put_points
 put-points-length a i [] = refl
 put-points-length a i (p ∷ ps) = put-points-length (put_point a i p) (suc i) ps ∙ put-length a (2 * i) (p.x ∷ p.y ∷ [])
+
+-- a vertex that may be a corner, and the others
+pub kept-length : (t : Bool) (p : Point) (ps : List Point) → length (keep t p ps) ≡ bit t + length ps
+kept-length true p ps = omega arith
+kept-length false p ps = omega arith
+
+pub put-kept : (a : List ℤ) (i : ℕ) (t : Bool) (p : Point) (ps : List Point) → put_points (put_points a i (keep t p [])) (i + bit t) ps ≡ put_points a i (keep t p ps)
+unfolding put_points
+put-kept a i true p ps = let e : i + 1 ≡ suc i = omega arith in ap (λ (k : ℕ). put_points (put_point a i p) k ps) e
+put-kept a i false p ps = let e : i + 0 ≡ i = omega arith in ap (λ (k : ℕ). put_points a k ps) e
 
 pub put-none : (a : List ℤ) (i : ℕ) → put_points a i [] ≡ a
 unfolding put_points

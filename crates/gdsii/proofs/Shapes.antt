@@ -90,6 +90,9 @@ pub record Along (first : Point) (all : List Point) (p : Point) (left : List Poi
   pub last : last_or p left ≡ last_or first all
   pub bent : (flag || slanted (p ∷ left)) ≡ slanted (first ∷ all)
 
+pub along-start : (first : Point) (all : List Point) → Along first all first all false
+along-start first all = record { last = refl; bent = refl }
+
 pub along-next : {first : Point} {all : List Point} {p : Point} {left : List Point} {flag : Bool} → Along first all p left flag → (q : Point) (more : List Point) → left ≡ q ∷ more → Along first all q more (flag || is_slanted p q)
 unfolding last_or slanted edges_of any
 along-next {p = p} {flag = flag} a q more e = record { last = ap (last_or p) (sym e) ∙ a.last; bent = or_assoc flag (is_slanted p q) (slanted (q ∷ more)) ∙ ap (λ (l : List Point). flag || slanted (p ∷ l)) (sym e) ∙ a.bent }
@@ -103,6 +106,21 @@ along-end {first} {all} {p} {left} {flag} a e =
     ap₂ (λ (u : Point) (v : Bool). cond (not (same u first)) (Err Open) (cond v (Err Slanted) (Ok (tt {0})))) l b
 
 -- ---- What the shape says
+
+-- a boundary that is not refused is closed and not slanted
+pub fine-shape : (vs : List Point) → shape_of vs ≡ Ok (tt {0}) → (is_open vs ≡ false) × (slanted vs ≡ false)
+fine-shape vs e = go (is_open vs) (slanted vs) refl refl e
+  where
+    go : (o s : Bool) → is_open vs ≡ o → slanted vs ≡ s → cond o (Err Open) (cond s (Err Slanted) (Ok (tt {0}))) ≡ Ok (tt {0}) → (is_open vs ≡ false) × (slanted vs ≡ false)
+    go true s d f e = absurd cc
+    go false true d f e = absurd cc
+    go false false d f e = (d, f)
+
+-- it has a vertex
+pub fine-some : (n at : ℕ) (t : List ℕ) → shape_of (vertices n at t) ≡ Ok (tt {0}) → 0 < n
+unfolding vertices is_open
+fine-some zero at t e = absurd cc
+fine-some (suc n) at t e = omega arith
 
 -- what becomes of a boundary, by what was said of its shape
 abbrev pub shaped : Result (Unit {0}) Reason → List Point → Cursor → Judged

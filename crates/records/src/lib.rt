@@ -367,7 +367,9 @@ pub fn treatment_of(kind: u8) -> Treatment
         PATH..=AREF => Treatment::Refer,
         LAYER => Treatment::Layer,
         XY => Treatment::Vertices,
-        _ if data_of(kind).is_none() => Treatment::Unknown,
+        // Between types that the format uses, and past the last of them.
+        20 | 24 | 29 | 30 | 36 | 37 | 39 | 40 | 41 | 50 | 51 | 53 => Treatment::Unknown,
+        60..=255 => Treatment::Unknown,
         _ => Treatment::Skip,
     }
 }

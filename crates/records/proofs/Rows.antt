@@ -15,6 +15,7 @@ use Rattle.records.specs.declared.Row.{Row as CodeRow}
 use Rattle.records.specs.declared.TheConstants.{ORDER}
 use Rattle.records.specs.Format.{Row, row, order, follow_in, follow}
 use Rattle.records.specs.Inner.{row_of}
+use Rattle.records.proofs.Tables.{every, every-at}
 
 -- ---- Rows in order
 
@@ -120,6 +121,15 @@ pub follow-past : (at t : ℕ) → 82 ≤ at → follow at t ≡ 0
 unfolding follow
 follow-past at t h = past-last order 1 at t order-numbered (omega (arith, order-length))
 
+-- the rows where another type is tried, after row 0
+abbrev pub skips : List ℕ
+skips = 0 ∷ map (λ (r : Row). r.skip) order
+
+-- are rows, or none
+pub skips-most : (i : ℕ) → i < 82 → get_or skips i 0 < 82
+unfolding every order
+skips-most i h = ltb-true (get_or skips i 0) 82 (every-at (λ k x. ltb x 82) skips refl i h)
+
 -- ---- The code's table
 
 -- a row of it
@@ -172,12 +182,13 @@ module _ (k t : ℕ) {r : CodeRow} (h : k < 81) (is : r ≡ get_or ORDER k blank
     unfolding coded
     past = here.0 ∙ cond-false (eqb (at k).type t) (at k).next (follow (at k).skip t) (ne_eqb (at k).type t (λ e. other (ap (λ (q : CodeRow). q.0) same ∙ e)))
 
-    -- another one is tried where the row says, which is further down
-    pub follow-left : (s : ℕ) → r.2 ≡ Some s → (follow s t ≡ follow (suc k) t) × (suc k < s)
+    -- another one is tried where the row says, which is a row further down
+    pub follow-left : (s : ℕ) → r.2 ≡ Some s → (follow s t ≡ follow (suc k) t) × (suc k < s) × (s < 82)
     unfolding coded
     follow-left s e =
         let u = skips-to (at k).skip s (sym (ap (λ (q : CodeRow). q.2) same) ∙ e) in
-        (sym (past ∙ ap (λ (n : ℕ). follow n t) u.0), go here.1.down u.0 u.1)
+        let c = map_at (λ (q : Row). q.skip) order k none 0 (omega (arith, order-length)) in
+        (sym (past ∙ ap (λ (n : ℕ). follow n t) u.0), go here.1.down u.0 u.1, rw (← u.0, ← c) (skips-most (suc k) (omega arith)))
       where
         go : {n : ℕ} → (n ≡ 0) ⊎ (suc k < n) → n ≡ s → 0 < n → suc k < s
         go (inl z) u g = absurd (omega arith)

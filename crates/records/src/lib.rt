@@ -202,13 +202,19 @@ const ORDER: [Row; 81] = [
     Row(ENDEL, 20, None),
 ];
 
-// The row of the order that a record of a type leads to from a row, if it may come there. Each row says where to look next, so this is a loop.
+// The row of the order that a record of a type leads to from a row, if it may come there. Each row says where to look next, so this is a loop. What a
+// row names is a row, so only the first is looked for.
 fn follow(at: u8, kind: u8) -> Option<u8>
     ensures { result ≡ row_of (follow at kind) }
 {
+    // An index into the constant itself would copy it whole.
+    let rows = &ORDER;
+    if at == 0 || rows.len() < usize::from(at) {
+        return None;
+    }
     let mut row = at;
     loop {
-        let Row(expected, next, skip) = *ORDER.get(usize::from(row).checked_sub(1)?)?;
+        let Row(expected, next, skip) = rows[usize::from(row) - 1];
         if expected == kind {
             return Some(next);
         }

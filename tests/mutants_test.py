@@ -63,6 +63,18 @@ def mutants_in(text):
     return list(mutants_of("one", "crates/one/src/lib.rt", text, source, source))
 
 
+# By its lines: a function with its body, at an indent; and a block of functions with its owner, the type that it is for, or else the trait.
+FUNCTION = r"^{0}(?:pub(?:\(\w+\))? )?(?:extern \"C\" )?fn (\w+)(?:<[^(]*>)?\((?:(?!;\n).)*?\{{\n(.*?)^{0}\}}"
+OWNER = r"^(?:impl|(?:pub )?trait)(?:<[^\n]*?>)? (?:[^\n{]* for )?(\w+)[^\n]*\{\n(.*?)^\}"
+
+
+def functions_in(text, indent=""):
+    """The functions of a source that have a body, each by its owner and name, with its body; those of its blocks come after the others."""
+    found = re.findall(FUNCTION.format(indent), text, re.M | re.S)
+    blocks = () if indent else re.findall(OWNER, text, re.M | re.S)
+    return found + [(f"{owner}::{name}", body) for owner, block in blocks for name, body in functions_in(block, "    ")]
+
+
 class Edits(unittest.TestCase):
     """What the edits of one kind make of a function's body."""
 
@@ -108,6 +120,13 @@ class Edits(unittest.TestCase):
 
     def test_a_pattern(self):
         self.check("constant", "match a { 3 => b, _ => a }", "match a { 4 => b, _ => a }", "match a { 2 => b, _ => a }")
+
+    def test_a_guard(self):
+        body = "match a { d if d < b && c => b, 3 | 5 if f(a, 7, false) => a, _ => b }"
+        self.check("comparison", body, body.replace("<", "<="))
+        self.check("exchange", body, body.replace("d < b", "b < d"), body.replace("&&", "||"), body.replace("a, 7", "7, a"))
+        numbers = [("3", "4"), ("3", "2"), ("5", "6"), ("5", "4"), ("7", "8"), ("7", "6"), ("false", "true")]
+        self.check("constant", body, *(body.replace(old, new) for old, new in numbers))
 
     def test_a_result_that_is_taken_apart(self):
         body = "match g(a, &mut d[b..]) { Ok(more) => { if more == 0 { break; } a += more; } Err(_) => { return Pair { x: a }; } }"
@@ -222,15 +241,22 @@ class Choice(unittest.TestCase):
             self.assertGreaterEqual(sum(mutant.kind == kind for mutant in self.chosen), SCRIPT.COUNT // 10, kind)
 
     def test_every_function_with_a_place(self):
-        """A body has a place if it has a number or an operator between spaces: this is read off the text, line by line."""
+        """A body has a place if it has a number or an operator between spaces, past its macros: this is read off the text, line by line."""
         items, functions = {mutant.item for mutant in self.chosen}, 0
         for crate in crates_of(ROOT):
             for path in (ROOT / "crates" / crate / "src").glob("*.rt"):
-                for name, body in re.findall(r"^(?:pub )?fn (\w+)\(.*?\n?\{\n(.*?)^\}", path.read_text(encoding="utf-8"), re.M | re.S):
-                    if re.search(r"\b\d| (?:[-+/%<>&|*]|[-+]=|[=!<>]=) ", body):
+                within = "" if path.stem in ("lib", "main") else f"{path.stem}."
+                for name, body in functions_in(path.read_text(encoding="utf-8")):
+                    if re.search(r"\b\d| (?:[-+/%<>&|*]|[-+]=|[=!<>]=) ", re.sub(r"\w!\(.*", "", body)):
                         functions += 1
-                        self.assertIn(f"{crate}/{name}", items)
-        self.assertGreaterEqual(functions, 100)
+                        self.assertIn(f"{crate}/{within}{name}", items)
+        self.assertGreaterEqual(functions, 150)
+
+    def test_functions_by_their_lines(self):
+        generic = "    pub fn b<const N: usize>(self) -> [u8; N]\n        ensures { 1 ≡ 1 }\n    {\n        [2; N]\n    }\n"
+        text = "fn a() {\n    1\n}\n\nimpl<'a, T: Of<U>> Pair<'a, T> {\n" + generic + "}\n"
+        text += "\nimpl fmt::Display for Pair {\n    fn c();\n\n    pub(crate) fn d() {\n        3\n    }\n}\n"
+        self.assertEqual(functions_in(text), [("a", "    1\n"), ("Pair::b", "        [2; N]\n"), ("Pair::d", "        3\n")])
 
     def test_every_crate_that_has_code(self):
         crates = {mutant.crate for mutant in self.chosen}

@@ -336,14 +336,16 @@ class Reader:
         return False
 
     def match(self):
-        """Reads a `match`."""
+        """Reads a `match`. An arm's guard is a condition like that of an `if`, but literals of structs may stand in it."""
         self.expect("match")
         self.expression(literals=False)
         self.expect("{")
         while not self.take("}"):
-            for token in self.skip_to("=>"):
+            for token in self.skip_to("=>", "if"):
                 self.note_constant(token)
-            self.next()
+            if self.take("if"):
+                self.expression()
+            self.expect("=>")
             self.expression()
             self.take(",")
 

@@ -18,8 +18,10 @@ ANTT_DECLARATION = re.compile(
 RT_DECLARATION = re.compile(r"\b(?:fn|struct|enum|trait|const)\s+(\w+)")
 RT_ENUM = re.compile(r"\benum\s+\w+[^{;]*\{(.*?)^\}", re.MULTILINE | re.DOTALL)
 RT_CASE = re.compile(r"^    (\w+)", re.MULTILINE)
-RT_PUBLIC_FUNCTION = re.compile(r'\bpub\s+(?:(?:const|unsafe|extern|"C")\s+)*fn\s+(\w+)[^(]*')
-RT_PUBLIC_TRAIT = re.compile(r"\bpub\s+trait\s+\w[^{]*\{")
+RT_PUBLIC_FUNCTION = re.compile(r'\bpub\s+(?:(?:const|unsafe|extern|"C"|impl)\s+)*fn\s+(\w+)[^(]*')
+# A public trait, or an impl of a trait for a type, which is the group.
+RT_TRAIT_BLOCK = re.compile(r"\bpub\s+trait\s+\w[^{]*\{|\bimpl\b[^{;]*?\bfor\s+(\w+)[^{]*\{")
+RT_PRIVATE_TYPE = re.compile(r"(?<!pub )\b(?:struct|enum)\s+(\w+)")
 RT_FUNCTION = re.compile(r"\bfn\b")
 # After a function's parameters: a clause of its contract, which may have a name, or its body, or the `;` of a trait's function, outside of a type.
 RT_CLAUSE_OR_BODY = re.compile(r"(?:\b(requires|ensures)\b\*?\s*(?:\w+\s*)?)?\{|;(?![^\[\n]*\])")
@@ -104,22 +106,27 @@ def function_at(text, head):
         has_result="->" in result,
         lends_to_write="&mut" in text[head.end() : parameters_end],
         requires="requires" in clauses,
-        ensures="ensures" in clauses,
+        ensures="ensures" in clauses or "impl" in head.group().split(),
     )
 
 
 def with_trait_methods(text):
-    """The source with `pub` before each function of a public trait, which is as public as the trait is."""
-    parts, end = [], 0
-    for head in RT_PUBLIC_TRAIT.finditer(text):
+    """The source with `pub` before each function of a public trait and of a trait's impl for a public type, which are as public as the trait or
+    the type is. Where the impl has ghost items it is `pub impl`: by them the trait's clauses are the function's contract."""
+    parts, end, private = [], 0, set(RT_PRIVATE_TYPE.findall(text))
+    for head in RT_TRAIT_BLOCK.finditer(text):
+        if head.group(1) in private:
+            continue
         closing = group_end(text, head.end() - 1)
-        parts += [text[end : head.end()], RT_FUNCTION.sub("pub fn", text[head.end() : closing])]
+        block = text[head.end() : closing]
+        public = "pub impl fn" if head.group(1) and has_word(block, "ghost") else "pub fn"
+        parts += [text[end : head.end()], RT_FUNCTION.sub(public, block)]
         end = closing
     return "".join([*parts, text[end:]])
 
 
 def public_functions(text):
-    """The public functions and methods of a Rattle file, by name, those of its public traits among them."""
+    """The public functions and methods of a Rattle file, by name, those of its public traits and of traits' impls among them."""
     plain = with_trait_methods(without_comments(text, RT_COMMENT))
     functions = [function_at(plain, head) for head in RT_PUBLIC_FUNCTION.finditer(plain)]
     return sorted(functions, key=lambda function: function.name)

@@ -311,6 +311,9 @@ class ThingsToCite(CheckerCase):
     def test_method(self):
         self.assert_uncited_function(f"impl Point {{\n    pub fn turn(self) {ENSURES} {{}}\n}}\n", "turn")
 
+    def test_method_of_an_impl(self):
+        self.assert_uncited_function("pub enum Way { In }\nimpl Turn for Way {\n    ghost turned = { Way };\n    fn turn(self) {}\n}\n", "turn")
+
     def test_function_cited_for_another_file(self):
         self.assert_uncited_function(f"pub fn first() {ENSURES} {{}}\n", "first")
 
@@ -366,6 +369,12 @@ class Contracts(CheckerCase):
         code = GOOD_OTHER_SOURCE + "pub trait Seen { fn first() -> u8; }\n"
         self.assert_fault({OTHER_SOURCE: code}, f"{OTHER_SOURCE}: the public function has no `ensures`: first")
         self.assert_passes({OTHER_SOURCE: code.replace("pub trait", "trait")})
+
+    def test_methods_of_impls(self):
+        code = GOOD_OTHER_SOURCE + "pub struct Small(u8);\nimpl<T: Seen> From<T> for Small { fn first(seen: T) -> Small { seen.small() } }\n"
+        self.assert_fault({OTHER_SOURCE: code}, f"{OTHER_SOURCE}: the public function has no `ensures`: first")
+        self.assert_passes({OTHER_SOURCE: code.replace("pub struct", "struct")})
+        self.assert_passes({OTHER_SOURCE: code.replace("{ fn", "{ ghost from_gives = { λ s t. t ≡ s }; fn")})
 
     def test_requires(self):
         self.assert_function_fault(("-> u8\n", "-> u8 requires { 1 < 2 }\n"), "has a `requires`: first")

@@ -28,7 +28,7 @@ SIZES = (512, 1024, 2048, 4096)
 COUNTS = (1024, 4096, 16384)
 # The most stack is used where a sort goes deepest, which takes few rectangles, or where backward's array of keys is filled once or more.
 STACK_SIZES = (64, 4096)
-STACK_COUNTS = (*range(1, 65), 384, 385, 768, 769, 1536, 4096, 16384)
+STACK_COUNTS = (*range(1, 65), 336, 337, 384, 385, 672, 673, 768, 769, 1344, 1536, 4096, 16384)
 MEGABYTES = (10, 100)
 # How often KLayout reads each stream.
 TURNS = 3

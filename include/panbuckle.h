@@ -2,8 +2,8 @@
  *
  * Link with libpanbuckle_c.a, which `rt lib` in crates/panbuckle_c proves and writes to out/ there. It is for x86-64 and the System V
  * calling convention, and needs nothing but memset. The functions keep no state, allocate nothing, call nothing back and end for every
- * input, so that any number of threads may call them at once, each with arrays of its own. They use at most 12.7 KiB of stack forward, in a step
- * and for a stream file, and 14.5 KiB backward, which is measured and not proved.
+ * input, so that any number of threads may call them at once, each with arrays of its own. They use at most 11 KiB of stack forward, in a step
+ * and for a stream file, and 13.5 KiB backward, which is measured and not proved.
  *
  * What each function returns and writes is proved, for every content and length of the arrays: no caller has to check anything first.
  * What C cannot say and the caller owes is this, for each pointer: it points to as many numbers as its length says (it may be NULL where

@@ -25,7 +25,7 @@ from streams import AREAS, CORNERS, LAYER, MEGABYTE, STREAMS, WANTED  # noqa: E4
 FEW = 64
 # The fewest points and rectangles that take the sorts to their depth.
 DEEP = 2048
-FEW_RECTANGLES = (1, 28, 40, 385)
+FEW_RECTANGLES = (1, 28, 40, 337, 385)
 HEADER = ROOT / "include" / "panbuckle.h"
 STACK = re.compile(r"at most ([\d.]+) KiB of stack forward, in a step\s+\*?\s*and for a stream file, and ([\d.]+) KiB backward")
 KIB = 1024

@@ -112,8 +112,9 @@ fn odd_ones(keys: &mut [u64]) -> usize
 
 // ---- A batch
 
-// As many keys as a batch holds, and as many as it keeps where it is full: 12 KiB of keys leave the rest of a stack of 16 for calls.
-const MOST_KEYS: usize = 1536;
+// As many keys as a batch holds, and as many as it keeps where it is full: 10.5 KiB of keys leave the rest of a stack of 13.5 for calls, of which the
+// library's sort takes most.
+const MOST_KEYS: usize = 1344;
 
 const KEPT_KEYS: usize = MOST_KEYS / 2;
 

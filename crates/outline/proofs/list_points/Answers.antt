@@ -3,7 +3,7 @@ use Prim.Native.Nat.{◌+◌, ◌*◌, ◌≤◌}
 use native.Mathlib.Omega.{arith}
 use mathlib.Core.Path.{◌≡◌, refl, ap, ◌∙◌}
 use mathlib.Core.List.{List}
-use lib.ListN.{length}
+use lib.ListN.{length, length-take, length-drop}
 use borrow.Author.Rules.{rules}
 use Rattle.plane.specs.declared.Point.{Point}
 use Rattle.plane.specs.Lists.{at_start}
@@ -66,6 +66,10 @@ overflow_add-listed c = rw c.keys-keys.ensures (omega (arith, listed-fits (goal.
 
 pub overflow_mul-listed : goal.overflow_mul-listed
 overflow_mul-listed c = rw c.keys-keys.ensures (omega (arith, listed-fits (goal.at.overflow_mul-listed c).After-gather))
+
+-- the keys are the batch's, no more
+pub put_points-requires : goal.put_points-requires
+put_points-requires c = simp (length-take, length-drop) (omega arith)
 
 -- the points of the batch are written after those before, if all have room
 written : (c : Joined-listed-points) → let g = (goal.at-Joined-listed-points c).After-gather in let points = (loop-of g).args.points.now in 2 * length (answer g) ≤ length points → c.if-listed-points.points ≡ at_start (flat_points (below g)) points

@@ -41,7 +41,7 @@ UNFIT = re.compile(r"not in scope|can be named from here|cannot appear|has no fi
 FUNCTION = re.compile(r"\bfn \w+\(")
 # An edit of a crate of code takes the gate up to a minute: so many of each crate are tried there. The functions of these are few and
 # short, and take seconds.
-MOST_IN_GATE = 2
+MOST_IN_GATE = 3
 QUICK = ("plane", "entry")
 KEPT = "tests/edits"
 RECORD = f"{KEPT}/RECORD"

@@ -166,19 +166,19 @@ class Judge(Tree):
             self.judge(GOOD_EDIT, GOOD.replace("the two types differ", f"no proof of {term}"))
 
     def crowd(self, code):
-        """Two edits more in the first crate, which has this code."""
+        """Three edits more in the first crate, which has this code."""
         write(self.root, "crates/one/src/lib.rt", code)
-        for name in ("more", "most"):
+        for name in ("more", "most", "others"):
             write(self.root, EDIT.replace("wrong", name), GOOD_EDIT)
-        write(self.root, LOG, log_of(wrong=GOOD, more=GOOD, most=GOOD))
+        write(self.root, LOG, log_of(wrong=GOOD, more=GOOD, most=GOOD, others=GOOD))
 
-    def test_three_edits_of_a_crate_of_code(self):
+    def test_four_edits_of_a_crate_of_code(self):
         self.crowd("pub fn one(x: u8) -> u8 {\n    x\n}\n")
-        self.check(4, "crates/one/must-fail: it has 3 edits, and 2 at most")
+        self.check(5, "crates/one/must-fail: it has 4 edits, and 3 at most")
 
-    def test_three_edits_of_a_crate_without_functions(self):
+    def test_four_edits_of_a_crate_without_functions(self):
         self.crowd("// Words of a function.\npub struct One {}\n")
-        self.check(4)
+        self.check(5)
 
 
 class Record(Tree):
